@@ -18,11 +18,12 @@ use Rattle.tg_wire.specs.Inner.Told.{byte_if, led_text}
 pub led : (front lead : List ℕ) (d : Data) → ((front ++ lead) ++ compact_text d) ++ 125 ∷ 10 ∷ [] ≡ front ++ led_text lead d
 led front lead d = simp append_assoc
 
-pub between : (front lead d rest : List ℕ) → (((front ++ lead) ++ d) ++ rest) ++ 10 ∷ [] ≡ front ++ (lead ++ ((d ++ rest) ++ 10 ∷ []))
-between front lead d rest = simp append_assoc
+-- a line feed after a number and the rest
+pub fed : (lead d rest : List ℕ) → lead ++ (d ++ (rest ++ 10 ∷ [])) ≡ lead ++ ((d ++ rest) ++ 10 ∷ [])
+fed lead d rest = simp append_assoc
 
-pub ended : (front lead d : List ℕ) → ((front ++ lead) ++ d) ++ 125 ∷ 10 ∷ [] ≡ front ++ (lead ++ ((d ++ 125 ∷ []) ++ 10 ∷ []))
-ended front lead d = simp append_assoc
+pub in_three : (lead text : List ℕ) → (lead ++ text) ++ 34 ∷ 125 ∷ 10 ∷ [] ≡ lead ++ (text ++ 34 ∷ 125 ∷ 10 ∷ [])
+in_three lead text = append_assoc lead text _
 
 pub braced : (front : List ℕ) (ms : Members) → ((front ++ 123 ∷ []) ++ members_text false ms) ++ 10 ∷ [] ≡ front ++ line_text (object ms)
 braced front ms = simp append_assoc
@@ -31,10 +32,10 @@ in_a_row : (a b c d e f : List ℕ) → ((((a ++ b) ++ c) ++ d) ++ e) ++ f ≡ a
 in_a_row a b c d e f = simp append_assoc
 
 -- a text that needs no escape, between its quotes and what stands around them
-pub closed : (front lead s : List ℕ) → escape s ≡ s → ((front ++ lead) ++ s) ++ 34 ∷ 125 ∷ 10 ∷ [] ≡ front ++ (lead ++ (((escape s ++ 34 ∷ []) ++ 125 ∷ []) ++ 10 ∷ []))
-closed front lead s plain =
-    let flat : ((front ++ lead) ++ s) ++ 34 ∷ 125 ∷ 10 ∷ [] ≡ front ++ (lead ++ (((s ++ 34 ∷ []) ++ 125 ∷ []) ++ 10 ∷ [])) = simp append_assoc in
-    flat ∙ ap (λ l. front ++ (lead ++ (((l ++ 34 ∷ []) ++ 125 ∷ []) ++ 10 ∷ []))) (sym plain)
+pub closed : (lead s : List ℕ) → escape s ≡ s → lead ++ (s ++ 34 ∷ 125 ∷ 10 ∷ []) ≡ lead ++ (((escape s ++ 34 ∷ []) ++ 125 ∷ []) ++ 10 ∷ [])
+closed lead s plain =
+    let flat : s ++ 34 ∷ 125 ∷ 10 ∷ [] ≡ ((s ++ 34 ∷ []) ++ 125 ∷ []) ++ 10 ∷ [] = simp append_assoc in
+    ap (λ l. lead ++ l) (flat ∙ ap (λ l. ((l ++ 34 ∷ []) ++ 125 ∷ []) ++ 10 ∷ []) (sym plain))
 
 -- one more member
 pub member_more : (front : List ℕ) (later : Bool) (key : List ℕ) (d : Data) (ms : Members)

@@ -1,5 +1,6 @@
 -- What only proofs and private contracts need.
 pub mod Keys
+pub mod LastLine
 pub mod Known
 pub mod Reading
 pub mod Members

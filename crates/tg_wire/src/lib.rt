@@ -11,6 +11,7 @@ mod fault;
 mod field;
 mod flat;
 mod key;
+mod last_line;
 mod laws;
 mod line;
 mod line_room;

@@ -1,11 +1,9 @@
 //! Room for lines: for those of answers, and for the texts of one that is read.
 
+use crate::last_line::LastLine;
 use json::Scratch;
 use std::alloc::{AllocError, Global};
 use std::marker::Model;
-
-/// Room for most lines.
-const ROOM: usize = 128;
 
 /// Room for the texts of a line that is read and has escapes: for one with escapes of two bytes, and for all of a line
 /// with others. Either is made at the first such line, and grows to the length of the longest.
@@ -51,33 +49,34 @@ impl TokensRoom {
     }
 }
 
-/// Room in which lines are written, one after another, seen as the last of them: a line allocates only if it is longer
-/// than all lines before it in the same room. It also has the room that
+/// Room in which lines are written, one after another, seen as the last of them. A short answer takes no memory, and
+/// another line only if it is longer than all lines before it in the same room. It also has the room that
 /// `read_line_in` needs for texts with escapes, which is taken at the first such line and grows to the length of the
 /// longest.
 #[derive(Drop)]
 pub struct LineRoom {
-    pub(crate) line: Vec<u8>,
+    pub(crate) last: LastLine,
     texts: TextsRoom,
 }
 
 impl Model for LineRoom {
     ghost use Rattle.std.specs.Prelude.{List, ℕ};
+    ghost use Rattle.tg_wire.specs.Inner.LastLine.{line_in};
 
     ghost Value = { List ℕ };
 
-    ghost view = { λ room. room.line.items };
+    ghost view = { λ room. line_in room.last };
 }
 
 impl LineRoom {
-    ghost use Rattle.std.specs.Prelude.{◌≡◌, [], OnOk};
+    ghost use Rattle.std.specs.Prelude.{◌≡◌, [], IfOk};
 
     /// No line, and no room yet. Allocates nothing.
     pub fn new(alloc: Global) -> LineRoom
         ensures { result ≡ [] }
     {
         LineRoom {
-            line: Vec::new(alloc),
+            last: LastLine::new(alloc),
             texts: TextsRoom::new(alloc),
         }
     }
@@ -87,23 +86,24 @@ impl LineRoom {
     pub fn line(&self) -> &[u8]
         ensures { result.now ≡ self.now }
     {
-        self.line.as_slice()
+        self.last.get()
     }
 
-    /// The line that was written last, which is all that is kept.
-    pub fn into_line(self) -> Vec<u8>
-        ensures { result.items ≡ self }
+    /// The line that was written last, which is all that is kept. `AllocError` if it took no memory yet, and a vector
+    /// for it cannot be allocated.
+    pub fn into_line(self) -> Result<Vec<u8>, AllocError>
+        ensures { IfOk result (λ line. line.items ≡ self) }
     {
-        let LineRoom { line, texts } = self;
+        let LineRoom { last, texts } = self;
         drop(texts);
-        line
+        last.into_vec()
     }
 
     /// Replaces the last line, and its room, by a line of the caller's.
     pub fn put(&mut self, line: Vec<u8>)
         ensures { self.new ≡ line.items }
     {
-        self.line = line;
+        self.last = LastLine::over(line);
     }
 
     /// Drops the line, and keeps its room. Allocates nothing.
@@ -111,16 +111,7 @@ impl LineRoom {
     pub fn clear(&mut self)
         ensures { self.new ≡ [] }
     {
-        self.line.clear();
-    }
-
-    /// No line, with room for most.
-    #[inline(always)]
-    pub(crate) fn begin(&mut self) -> Result<(), AllocError>
-        ensures { OnOk result (self.new ≡ []) }
-    {
-        self.clear();
-        self.line.try_reserve(ROOM)
+        self.last.clear();
     }
 
     /// Room for the texts of a line that is read.

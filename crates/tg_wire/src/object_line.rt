@@ -1,16 +1,18 @@
 //! The line of an object, written field by field into one buffer.
 
-ghost use Rattle.std.specs.Prelude.{◌≡◌, ◌+◌, ◌%◌, ◌≤◌, ◌∷◌, ◌++◌, [], false, decimal, length, OnOk};
+ghost use Rattle.std.specs.Prelude.{◌≡◌, ◌+◌, ◌%◌, ◌<◌, ◌≤◌, ◌∷◌, ◌++◌, [], false, decimal, length, OnOk};
 ghost use Rattle.tg_wire.specs.declared.object_line.TheConstants.{LONGEST_LEAD, SHORT_TEXT};
 ghost use Rattle.json.specs.Print.{quoted};
 ghost use Rattle.serde_json.specs.Data.{object, string};
 ghost use Rattle.serde_json.specs.Written.{compact_text, members_text};
 ghost use Rattle.tg_rights.specs.Promise.Written.{rights_text};
 ghost use Rattle.tg_wire.specs.Promise.Faults.{line_text};
+ghost use Rattle.tg_wire.specs.Inner.LastLine.{line_in};
 ghost use Rattle.tg_wire.specs.Inner.Told.{byte_if, field_of, led_text, leads_text, told_data, told_members};
 
 use crate::before::{bytes_before, number_before};
 use crate::edges::put_edges;
+use crate::last_line::LastLine;
 use crate::line_room::LineRoom;
 use crate::plain::is_plain;
 use itoa::Buffer;
@@ -19,10 +21,10 @@ use std::alloc::AllocError;
 use std::mem;
 use tg_rights::Rights;
 
-/// The most bytes of a line before the last of its values, where this is put in a small room with them.
+/// The most bytes before, and after, the value of a short line.
 const LONGEST_LEAD: usize = 29;
 
-/// The most bytes of a text that is put there.
+/// The most bytes of a text in a short line.
 const SHORT_TEXT: usize = 64;
 
 /// The value of a field to write.
@@ -41,8 +43,8 @@ pub(crate) fn object_line(
 ) -> Result<(), AllocError>
     ensures { OnOk result (room.new ≡ line_text (object (told_members fields.now))) }
 {
-    room.begin()?;
-    put_object(&mut room.line, fields)
+    room.last.begin()?;
+    put_object(&mut room.last.long, fields)
 }
 
 // Each of the rest of a line is put after what the room has, which is nothing: so no line is moved from call to call.
@@ -70,64 +72,70 @@ pub(crate) fn put_led_word(line: &mut Vec<u8>, lead: &[u8], word: &str) -> Resul
 /// The line of an object that has these bytes before the bytes of a text, a quote the last of them, and a quote after
 /// it. It ends with a line feed.
 #[inline(always)]
-pub(crate) fn put_led_text(line: &mut Vec<u8>, lead: &[u8], text: &[u8]) -> Result<(), AllocError>
-    requires { length lead.now ≤ LONGEST_LEAD }
-    ensures { OnOk result (line.new.items ≡ ((line.old.items ++ lead.now) ++ text.now) ++ 34 ∷ 125 ∷ 10 ∷ []) }
+pub(crate) fn put_led_text(line: &mut LastLine, lead: &[u8], text: &[u8]) -> Result<(), AllocError>
+    requires some { 0 < length lead.now }
+    requires short { length lead.now ≤ LONGEST_LEAD }
+    ensures { OnOk result (line_in line.new ≡ lead.now ++ (text.now ++ 34 ∷ 125 ∷ 10 ∷ [])) }
 {
     if text.len() <= SHORT_TEXT {
-        return put_short_text(line, lead, text);
+        put_short_text(line, lead, text);
+        return Ok(());
     }
-    line.extend_from_slice(lead)?;
-    line.extend_from_slice(text)?;
-    line.extend_from_slice(b"\"}\n")?;
-    Ok(())
+    put_long_text(line, lead, text)
 }
 
-/// The same of a short text: written before what stands, so that the line grows once.
+/// The same of a short text.
 #[inline(always)]
-fn put_short_text(line: &mut Vec<u8>, lead: &[u8], text: &[u8]) -> Result<(), AllocError>
-    requires lead { length lead.now ≤ LONGEST_LEAD }
+fn put_short_text(line: &mut LastLine, lead: &[u8], text: &[u8])
+    requires some { 0 < length lead.now }
+    requires short { length lead.now ≤ LONGEST_LEAD }
     requires text { length text.now ≤ SHORT_TEXT }
-    ensures { OnOk result (line.new.items ≡ ((line.old.items ++ lead.now) ++ text.now) ++ 34 ∷ 125 ∷ 10 ∷ []) }
+    ensures { line_in line.new ≡ lead.now ++ (text.now ++ 34 ∷ 125 ∷ 10 ∷ []) }
 {
-    let mut room = [0; 96];
-    let end = bytes_before(&mut room, 96, b"\"}\n");
-    let end = bytes_before(&mut room, end, text);
-    let start = bytes_before(&mut room, end, lead);
-    line.extend_from_slice(&room[start..])
+    let end = line.put_end(b"\"}\n");
+    let end = bytes_before(&mut line.short, end, text);
+    line.put_start(end, lead);
+}
+
+/// The same of any other text.
+#[inline(always)]
+#[tactic(auto, using(crate::proofs::ObjectLineLemmas::in_three))]
+fn put_long_text(line: &mut LastLine, lead: &[u8], text: &[u8]) -> Result<(), AllocError>
+    ensures { OnOk result (line_in line.new ≡ lead.now ++ (text.now ++ 34 ∷ 125 ∷ 10 ∷ [])) }
+{
+    line.begin()?;
+    line.long.extend_from_slice(lead)?;
+    line.long.extend_from_slice(text)?;
+    line.long.extend_from_slice(b"\"}\n")?;
+    Ok(())
 }
 
 /// The line of an object that has these bytes before a number, and these after it. It ends with a line feed.
-#[tactic(auto, using(crate::proofs::ObjectLineLemmas::between))]
-pub(crate) fn put_led_number(
-    line: &mut Vec<u8>,
-    lead: &[u8],
-    number: u64,
-    rest: &[u8],
-) -> Result<(), AllocError>
-    ensures { OnOk result (line.new.items ≡ line.old.items ++ (lead.now ++ ((decimal number ++ rest.now) ++ 10 ∷ []))) }
+#[inline(always)]
+#[tactic(auto, using(crate::proofs::ObjectLineLemmas::fed))]
+pub(crate) fn put_led_number(line: &mut LastLine, lead: &[u8], number: u64, rest: &[u8])
+    requires some { 0 < length lead.now }
+    requires short { length lead.now ≤ LONGEST_LEAD }
+    requires rest { length rest.now ≤ LONGEST_LEAD }
+    ensures { line_in line.new ≡ lead.now ++ ((decimal number ++ rest.now) ++ 10 ∷ []) }
 {
-    line.extend_from_slice(lead)?;
-    put_number(line, number)?;
-    line.extend_from_slice(rest)?;
-    line.push(b'\n')?;
-    Ok(())
+    let end = line.put_end(b"\n");
+    let end = bytes_before(&mut line.short, end, rest);
+    let end = number_before(&mut line.short, end, number);
+    line.put_start(end, lead);
 }
 
 /// The line of an object whose last member is a number: the bytes before it, and the number. It ends with a line feed.
-pub(crate) fn put_last_number(
-    line: &mut Vec<u8>,
-    lead: &[u8],
-    number: u64,
-) -> Result<(), AllocError>
-    requires { length lead.now ≤ LONGEST_LEAD }
-    ensures { OnOk result (line.new.items ≡ line.old.items ++ (lead.now ++ ((decimal number ++ 125 ∷ []) ++ 10 ∷ []))) }
+#[inline(always)]
+#[tactic(auto, using(crate::proofs::ObjectLineLemmas::fed))]
+pub(crate) fn put_last_number(line: &mut LastLine, lead: &[u8], number: u64)
+    requires some { 0 < length lead.now }
+    requires short { length lead.now ≤ LONGEST_LEAD }
+    ensures { line_in line.new ≡ lead.now ++ ((decimal number ++ 125 ∷ []) ++ 10 ∷ []) }
 {
-    let mut room = [0; 64];
-    let end = bytes_before(&mut room, 64, b"}\n");
-    let end = number_before(&mut room, end, number);
-    let start = bytes_before(&mut room, end, lead);
-    line.extend_from_slice(&room[start..])
+    let end = line.put_end(b"}\n");
+    let end = number_before(&mut line.short, end, number);
+    line.put_start(end, lead);
 }
 
 /// The line of an object of three fields: the bytes before each value, and the value. It ends with a line feed.

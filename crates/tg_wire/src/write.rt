@@ -6,10 +6,13 @@ ghost use Rattle.json.specs.Print.{escape};
 ghost use Rattle.serde_json.specs.Data.{array, object, member, no_members, string, number, unsigned};
 ghost use Rattle.tg_wire.specs.Promise.Faults.{line_text, seat_fault_text as text_of_seat_fault, ask_fault_text as text_of_ask_fault};
 ghost use Rattle.tg_wire.specs.Promise.Replies.{edges_data, which_text as text_of_which, rule_text, denied_data, reply_line};
+ghost use Rattle.tg_wire.specs.Inner.LastLine.{line_in};
+ghost use Rattle.tg_wire.specs.Inner.Told.{led_text};
 ghost use Rattle.tg_wire.specs.Promise.Answers.{denied_step_data, noted_data, answer_line, swept_line, verdict_line};
 
 use crate::before::{bytes_before, letters_before, number_before};
 use crate::edges::put_edges;
+use crate::last_line::LastLine;
 use crate::line_room::LineRoom;
 use crate::object_line::{
     Told, object_line, put_last_number, put_led_number, put_led_text, put_led_word, put_object,
@@ -30,7 +33,7 @@ pub fn write_reply(alloc: Global, reply: &Reply) -> Result<Vec<u8>, AllocError>
 {
     let mut room = LineRoom::new(alloc);
     write_reply_in(&mut room, reply)?;
-    Ok(room.into_line())
+    room.into_line()
 }
 
 /// The same, in room that is kept from line to line. `AllocError` if an allocation failed; nothing is then known of the
@@ -39,38 +42,50 @@ pub fn write_reply(alloc: Global, reply: &Reply) -> Result<Vec<u8>, AllocError>
 pub fn write_reply_in(room: &mut LineRoom, reply: &Reply) -> Result<(), AllocError>
     ensures { OnOk result (room.new ≡ reply_line reply.now) }
 {
-    room.begin()?;
-    put_reply(&mut room.line, reply)
+    put_reply(&mut room.last, reply)
 }
 
 #[inline(always)]
 #[tactic(auto, unfolding(crate::specs::Promise::Replies::reply_line, crate::proofs::Literals::numbers_on_literals))]
-fn put_reply(line: &mut Vec<u8>, reply: &Reply) -> Result<(), AllocError>
-    ensures { OnOk result (line.new.items ≡ line.old.items ++ reply_line reply.now) }
+fn put_reply(line: &mut LastLine, reply: &Reply) -> Result<(), AllocError>
+    ensures { OnOk result (line_in line.new ≡ reply_line reply.now) }
 {
     match reply {
-        Reply::Done => line.extend_from_slice(b"{\"ok\":\"done\"}\n"),
+        Reply::Done => line.put(b"{\"ok\":\"done\"}\n"),
         Reply::Created(vertex) => {
             put_last_number(line, b"{\"ok\":\"created\",\"vertex\":", *vertex)
         }
-        Reply::Text(text) => put_told_text(line, text),
-        Reply::Edges(edges) => put_told_edges(line, edges.get()),
-        Reply::Denied(rule, cause) => put_denied(line, *rule, *cause),
-        Reply::Full(which) => put_led_word(line, b"{\"full\":", which_text(*which)),
+        Reply::Text(text) => return put_told_text(line, text),
+        Reply::Edges(edges) => {
+            line.begin()?;
+            return put_told_edges(&mut line.long, edges.get());
+        }
+        Reply::Denied(rule, cause) => return put_denied(line, *rule, *cause),
+        Reply::Full(which) => return put_word(line, b"{\"full\":", which_text(*which)),
     }
+    Ok(())
 }
 
 /// The line of a text that was read.
 #[inline(always)]
 #[tactic(auto, unfolding(crate::proofs::Literals::numbers_on_literals))]
-fn put_told_text(line: &mut Vec<u8>, text: &Text) -> Result<(), AllocError>
-    ensures { OnOk result (line.new.items ≡ line.old.items ++ line_text (object (member (codes "ok") (string (codes "text")) (member (codes "text") (string text.now) no_members)))) }
+fn put_told_text(line: &mut LastLine, text: &Text) -> Result<(), AllocError>
+    ensures { OnOk result (line_in line.new ≡ line_text (object (member (codes "ok") (string (codes "text")) (member (codes "text") (string text.now) no_members)))) }
 {
     if is_plain_text(text) {
         let bytes = text.get().as_bytes();
         return put_led_text(line, b"{\"ok\":\"text\",\"text\":\"", bytes);
     }
-    put_led_word(line, b"{\"ok\":\"text\",\"text\":", text.get())
+    put_word(line, b"{\"ok\":\"text\",\"text\":", text.get())
+}
+
+/// The line of an object that begins with these bytes, and ends with this word.
+#[inline(never)]
+fn put_word(line: &mut LastLine, lead: &[u8], word: &str) -> Result<(), AllocError>
+    ensures { OnOk result (line_in line.new ≡ led_text lead.now (string word.now)) }
+{
+    line.begin()?;
+    put_led_word(&mut line.long, lead, word)
 }
 
 /// Whether no byte of the text needs an escape; some texts know.
@@ -97,7 +112,7 @@ pub fn write_answer(alloc: Global, answer: &Answer) -> Result<Vec<u8>, AllocErro
 {
     let mut room = LineRoom::new(alloc);
     write_answer_in(&mut room, answer)?;
-    Ok(room.into_line())
+    room.into_line()
 }
 
 /// The same, in room that is kept, and with the error of `write_reply_in`.
@@ -105,27 +120,27 @@ pub fn write_answer(alloc: Global, answer: &Answer) -> Result<Vec<u8>, AllocErro
 pub fn write_answer_in(room: &mut LineRoom, answer: &Answer) -> Result<(), AllocError>
     ensures { OnOk result (room.new ≡ answer_line answer.now) }
 {
-    room.begin()?;
-    put_answer(&mut room.line, answer)
+    put_answer(&mut room.last, answer)
 }
 
 #[inline(always)]
 #[tactic(auto, unfolding(crate::specs::Promise::Answers::answer_line, crate::specs::Promise::Replies::reply_line, crate::proofs::Literals::numbers_on_literals))]
-fn put_answer(line: &mut Vec<u8>, answer: &Answer) -> Result<(), AllocError>
-    ensures { OnOk result (line.new.items ≡ line.old.items ++ answer_line answer.now) }
+fn put_answer(line: &mut LastLine, answer: &Answer) -> Result<(), AllocError>
+    ensures { OnOk result (line_in line.new ≡ answer_line answer.now) }
 {
     match answer {
         Answer::Hello(vertex) => {
             put_last_number(line, b"{\"ok\":\"hello\",\"vertex\":", *vertex)
         }
-        Answer::Bye => line.extend_from_slice(b"{\"ok\":\"bye\"}\n"),
-        Answer::Asked(_, reply) => put_reply(line, reply),
+        Answer::Bye => line.put(b"{\"ok\":\"bye\"}\n"),
+        Answer::Asked(_, reply) => return put_reply(line, reply),
         Answer::Shaded(Some(vertex)) => put_last_number(line, b"{\"shaded\":", *vertex),
-        Answer::Shaded(None) => line.extend_from_slice(b"{\"shaded\":null}\n"),
-        Answer::Seat(fault) => put_led_word(line, b"{\"error\":", seat_fault_text(*fault)),
-        Answer::Ask(fault) => put_led_word(line, b"{\"error\":", ask_fault_text(*fault)),
+        Answer::Shaded(None) => line.put(b"{\"shaded\":null}\n"),
+        Answer::Seat(fault) => return put_word(line, b"{\"error\":", seat_fault_text(*fault)),
+        Answer::Ask(fault) => return put_word(line, b"{\"error\":", ask_fault_text(*fault)),
         Answer::Noted(note) => put_note(line, *note),
     }
+    Ok(())
 }
 
 /// The line of what a cycle did, which ends with a line feed. Keys are in rising order, with no white space.
@@ -135,7 +150,7 @@ pub fn write_swept(alloc: Global, swept: Swept) -> Result<Vec<u8>, AllocError>
 {
     let mut room = LineRoom::new(alloc);
     write_swept_in(&mut room, swept)?;
-    Ok(room.into_line())
+    room.into_line()
 }
 
 /// The same, in room that is kept, and with the error of `write_reply_in`.
@@ -159,7 +174,7 @@ pub fn write_verdict(alloc: Global, verdict: &Verdict) -> Result<Vec<u8>, AllocE
 {
     let mut room = LineRoom::new(alloc);
     write_verdict_in(&mut room, verdict)?;
-    Ok(room.into_line())
+    room.into_line()
 }
 
 #[tactic(auto, unfolding(crate::specs::Promise::Answers::verdict_line))]
@@ -198,14 +213,17 @@ fn step_line(room: &mut LineRoom, step: u64, verdict: &str) -> Result<(), AllocE
 
 /// The line of a denial for this cause.
 #[tactic(auto, unfolding(crate::proofs::Literals::numbers_on_literals))]
-fn put_denied(line: &mut Vec<u8>, rule: Rule, cause: Cause) -> Result<(), AllocError>
-    ensures { OnOk result (line.new.items ≡ line.old.items ++ line_text (denied_data rule cause)) }
+fn put_denied(line: &mut LastLine, rule: Rule, cause: Cause) -> Result<(), AllocError>
+    ensures { OnOk result (line_in line.new ≡ line_text (denied_data rule cause)) }
 {
     match cause {
         Cause::Retired => put_denied_for(line, rule, "retired"),
         Cause::Empty => put_denied_for(line, rule, "empty"),
         Cause::NotDistinct => put_denied_for(line, rule, "not distinct"),
-        Cause::Missing { from, to, rights } => put_missing(line, rule, from, rights, to),
+        Cause::Missing { from, to, rights } => {
+            put_missing(line, rule, from, rights, to);
+            Ok(())
+        }
         Cause::NotDocument { vertex } => put_denied_at(line, rule, "not document", vertex),
         Cause::NotSubject { vertex } => put_denied_at(line, rule, "not subject", vertex),
         Cause::NotPrincipal => put_denied_for(line, rule, "not principal"),
@@ -215,34 +233,27 @@ fn put_denied(line: &mut Vec<u8>, rule: Rule, cause: Cause) -> Result<(), AllocE
 }
 
 /// The line of a denial for rights that are missing.
-fn put_missing(
-    line: &mut Vec<u8>,
-    rule: Rule,
-    from: u64,
-    rights: Rights,
-    to: u64,
-) -> Result<(), AllocError>
-    ensures { OnOk result (line.new.items ≡ line.old.items ++ line_text (denied_data rule (Cause.Missing rights from to))) }
+fn put_missing(line: &mut LastLine, rule: Rule, from: u64, rights: Rights, to: u64)
+    ensures { line_in line.new ≡ line_text (denied_data rule (Cause.Missing rights from to)) }
 {
-    let mut room = [0; 96];
-    let end = bytes_before(&mut room, 96, b"}\n");
-    let end = number_before(&mut room, end, to);
-    let end = bytes_before(&mut room, end, b",\"to\":");
-    let end = letters_before(&mut room, end, rights);
-    let end = bytes_before(&mut room, end, b",\"missing\":");
-    let end = number_before(&mut room, end, from);
-    let end = bytes_before(&mut room, end, b"\",\"from\":");
-    let end = bytes_before(&mut room, end, command_form(rule).word.as_bytes());
-    let start = bytes_before(&mut room, end, b"{\"denied\":\"");
-    line.extend_from_slice(&room[start..])
+    let end = line.put_end(b"}\n");
+    let end = number_before(&mut line.short, end, to);
+    let end = bytes_before(&mut line.short, end, b",\"to\":");
+    let end = letters_before(&mut line.short, end, rights);
+    let end = bytes_before(&mut line.short, end, b",\"missing\":");
+    let end = number_before(&mut line.short, end, from);
+    let end = bytes_before(&mut line.short, end, b"\",\"from\":");
+    let end = bytes_before(&mut line.short, end, command_form(rule).word.as_bytes());
+    line.put_start(end, b"{\"denied\":\"");
 }
 
 /// The line of a denial for a cause with no field but its word.
-fn put_denied_for(line: &mut Vec<u8>, rule: Rule, cause: &str) -> Result<(), AllocError>
-    ensures { OnOk result (line.new.items ≡ line.old.items ++ line_text (object (member (codes "cause") (string cause.now) (member (codes "denied") (string (rule_text rule)) no_members)))) }
+fn put_denied_for(line: &mut LastLine, rule: Rule, cause: &str) -> Result<(), AllocError>
+    ensures { OnOk result (line_in line.new ≡ line_text (object (member (codes "cause") (string cause.now) (member (codes "denied") (string (rule_text rule)) no_members)))) }
 {
+    line.begin()?;
     put_object(
-        line,
+        &mut line.long,
         &[
             ("cause", Told::Word(cause)),
             ("denied", Told::Word(command_form(rule).word)),
@@ -252,12 +263,18 @@ fn put_denied_for(line: &mut Vec<u8>, rule: Rule, cause: &str) -> Result<(), All
 
 /// The line of a denial for a cause with a word and a vertex.
 #[tactic(auto, unfolding(crate::proofs::Literals::numbers_on_literals))]
-fn put_denied_at(line: &mut Vec<u8>, rule: Rule, cause: &str, vertex: u64) -> Result<(), AllocError>
-    ensures { OnOk result (line.new.items ≡ line.old.items ++ line_text (object (member (codes "cause") (string cause.now) (member (codes "denied") (string (rule_text rule))
+fn put_denied_at(
+    line: &mut LastLine,
+    rule: Rule,
+    cause: &str,
+    vertex: u64,
+) -> Result<(), AllocError>
+    ensures { OnOk result (line_in line.new ≡ line_text (object (member (codes "cause") (string cause.now) (member (codes "denied") (string (rule_text rule))
         (member (codes "vertex") (number (unsigned vertex)) no_members))))) }
 {
+    line.begin()?;
     put_three(
-        line,
+        &mut line.long,
         (b"{\"cause\":", &Told::Word(cause)),
         (b",\"denied\":", &Told::Word(command_form(rule).word)),
         (b",\"vertex\":", &Told::Number(vertex)),
@@ -341,8 +358,8 @@ fn denied_step_at(
 }
 
 /// The line of what a collector step did.
-fn put_note(line: &mut Vec<u8>, note: Note) -> Result<(), AllocError>
-    ensures { OnOk result (line.new.items ≡ line.old.items ++ line_text (noted_data note)) }
+fn put_note(line: &mut LastLine, note: Note)
+    ensures { line_in line.new ≡ line_text (noted_data note) }
 {
     match (note.ended, note.phase) {
         (false, Phase::Idle) => put_led_number(

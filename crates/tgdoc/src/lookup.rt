@@ -64,7 +64,7 @@ fn listed(alloc: Global, could: &[(u64, Rights)]) -> Result<Told, AllocError>
     let mut room = LineRoom::new(alloc);
     write_could_in(&mut room, could)?;
     Ok(Told {
-        text: room.into_line(),
+        text: room.into_line()?,
         is_error: false,
     })
 }

@@ -235,7 +235,7 @@ fn goal_text(alloc: Global, goal: &Goal) -> Result<Vec<u8>, AllocError>
 {
     let mut room = LineRoom::new(alloc);
     write_goal_in(&mut room, goal)?;
-    Ok(room.into_line())
+    room.into_line()
 }
 
 /// Adds the lines of the steps, each by one of the four rules.

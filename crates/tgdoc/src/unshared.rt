@@ -52,7 +52,7 @@ fn unshared_text(alloc: Global, unshared: Unshared) -> Result<Vec<u8>, AllocErro
 {
     let mut room = LineRoom::new(alloc);
     write_unshared_in(&mut room, unshared)?;
-    Ok(room.into_line())
+    room.into_line()
 }
 
 /// Whether the answer counts as an `error` line.

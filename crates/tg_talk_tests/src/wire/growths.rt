@@ -4,7 +4,7 @@
 use crate::wire::refusals::{HOSTILE, REFUSED, Reader, fault_in, fault_of};
 use std::alloc::Global;
 use tg_graph::Verdict;
-use tg_rights::{Cause, Command, Reply, Rights, Rule};
+use tg_rights::{Cause, Command, Reply, Rights, Rule, Which};
 use tg_tests::cases::LONG;
 use tg_vault::{Answer, Event, Swept};
 use tg_wire::{
@@ -259,24 +259,45 @@ fn growth_refused_in_write_reply(rt: HostRuntime) {
     assert!(rt; matches!(&answered(&rt, the_reply_is_written), Ok(true)));
 }
 
-/// Whether the reply of a create is written in the room; written again if memory runs out.
-fn is_written_in(rt: &HostRuntime, room: &mut LineRoom, vertex: u64, wanted: &[u8]) -> bool {
-    let reply = Reply::Created(vertex);
-    if write_reply_in(room, &reply).is_err() {
+/// Whether the reply is written in the room; written again if memory runs out.
+fn is_written_in(rt: &HostRuntime, room: &mut LineRoom, reply: &Reply, wanted: &[u8]) -> bool {
+    if write_reply_in(room, reply).is_err() {
         let _ = rt.println("no memory");
-        if write_reply_in(room, &reply).is_err() {
+        if write_reply_in(room, reply).is_err() {
             return false;
         }
     }
     room.line() == wanted
 }
 
-/// Room that could not be allocated is allocated with the next line, and kept for the one after it.
+/// Room that could not be allocated is allocated with the next line that needs some, and kept for the one after it.
 #[test]
 fn growth_refused_in_write_reply_in(rt: HostRuntime) {
     let room = &mut LineRoom::new(rt.alloc());
-    assert!(rt; is_written_in(&rt, room, 3, b"{\"ok\":\"created\",\"vertex\":3}\n"));
-    assert!(rt; is_written_in(&rt, room, 4, b"{\"ok\":\"created\",\"vertex\":4}\n"));
+    assert!(rt;
+        is_written_in(
+            &rt,
+            room,
+            &Reply::Full(Which::Slots),
+            b"{\"full\":\"slots\"}\n"
+        )
+    );
+    assert!(rt;
+        is_written_in(
+            &rt,
+            room,
+            &Reply::Full(Which::Cells),
+            b"{\"full\":\"cells\"}\n"
+        )
+    );
+}
+
+/// A short answer needs no memory.
+#[test]
+fn no_growth_in_a_short_reply(rt: HostRuntime) {
+    let room = &mut LineRoom::new(rt.alloc());
+    assert!(rt; write_reply_in(room, &Reply::Created(3)).is_ok());
+    assert!(rt; room.line() == b"{\"ok\":\"created\",\"vertex\":3}\n".as_slice());
 }
 
 fn the_answer_is_written(alloc: Global) -> Result<bool, WireFault> {

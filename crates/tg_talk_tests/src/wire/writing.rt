@@ -138,7 +138,7 @@ fn a_line_of_the_callers_takes_the_place_of_another(rt: HostRuntime) -> Result<(
     room.clear();
     assert!(rt; room.line().is_empty());
     write_reply_in(&mut room, &Reply::Done)?;
-    assert!(rt; room.into_line().as_slice() == b"{\"ok\":\"done\"}\n".as_slice());
+    assert!(rt; room.into_line()?.as_slice() == b"{\"ok\":\"done\"}\n".as_slice());
     Ok(())
 }
 

@@ -1,4 +1,5 @@
 use Rattle.std.proofs.Common.{◌≡◌, ◌∷◌, ◌++◌, [], OnOk, ap, ◌∙◌, subst, codes}
+use Rattle.tg_wire.specs.Inner.LastLine.{line_in}
 use Rattle.tg_wire.proofs.Literals.{numbers_on_literals}
 use Rattle.tg_wire.proofs.ObjectLineLemmas.{closed}
 use Rattle.tg_wire.proofs.write.put_told_text.Goals as goal
@@ -6,7 +7,6 @@ use Rattle.tg_wire.proofs.write.put_told_text.Goals as goal
 pub returns-then-is_plain_text : goal.returns-then-is_plain_text
 unfolding numbers_on_literals
 returns-then-is_plain_text c =
-    let front = c.args.line.now.items in
     let lead = codes "{\"ok\":\"text\",\"text\":\"" in
     let bytes = c.as_bytes-bytes.ensures.value ∙ c.get.ensures.bytes in
-    subst (λ l. OnOk c.put_led_text.result (c.put_led_text.new.line.items ≡ l)) (ap (λ s. ((front ++ lead) ++ s) ++ 34 ∷ 125 ∷ 10 ∷ []) bytes ∙ closed front lead c.args.text.now c.if-is_plain_text.ensures) c.put_led_text.ensures
+    subst (λ l. OnOk c.put_led_text.result (line_in c.put_led_text.new.line ≡ l)) (ap (λ s. lead ++ (s ++ 34 ∷ 125 ∷ 10 ∷ [])) bytes ∙ closed lead c.args.text.now c.if-is_plain_text.ensures) c.put_led_text.ensures
