@@ -1,5 +1,5 @@
 -- A word with a quote after it at the front of some bytes.
-use Rattle.std.proofs.Common.{◌≡◌, ℕ, ◌+◌, ◌-◌, ◌<◌, List, [], ◌∷◌, ◌++◌, length, take, drop, get_or, refl, sym, ap, ap₂, ◌∙◌, arith, append_assoc, take-append-drop, length-append}
+use Rattle.std.proofs.Common.{◌≡◌, ℕ, zero, suc, ◌+◌, ◌-◌, ◌<◌, List, [], ◌∷◌, ◌++◌, length, take, drop, get_or, refl, sym, ap, ap₂, ◌∙◌, arith, append_assoc, take-append-drop, length-append}
 use Rattle.std.proofs.lemmas.List.{get_or-take, get_or-drop, get_or_at, get_or_append_left, take_all, take_at, take_more}
 use Rattle.std.specs.Io.{StartsWith}
 use Rattle.std.specs.List.{prefix_len}
@@ -37,6 +37,13 @@ is_quoted xs word text n same is within front quote =
     let long : length (quoted text) ≡ n + 1 = omega (arith, quoted_length text, ap length same) in
     let letters : take n xs ≡ text = front ∙ take_all n word (omega arith) ∙ same in
     ap (λ k. take k xs) long ∙ take_more xs n 0 within ∙ ap₂ (λ l y. l ++ y ∷ []) letters quote
+
+-- the first few of some bytes are bytes
+pub first_are_bytes : (n : ℕ) (xs : List ℕ) → ((k : ℕ) → get_or xs k 0 < 256) → (i : ℕ) → get_or (take n xs) i 0 < 256
+first_are_bytes zero xs below i = omega arith
+first_are_bytes (suc n) [] below i = omega arith
+first_are_bytes (suc n) (x ∷ xs) below zero = below 0
+first_are_bytes (suc n) (x ∷ xs) below (suc i) = first_are_bytes n xs (λ k. below (suc k)) i
 
 -- ---- a key at a place of a line
 

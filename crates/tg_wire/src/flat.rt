@@ -21,7 +21,7 @@ use crate::key::Key;
 use crate::member::{Member, Plain};
 use crate::members::Members;
 use crate::op::Op;
-use crate::scan::{byte_at, read_key, read_number, read_text, spaces_end, text_of};
+use crate::scan::{byte_at, place_of, read_key, read_number, read_text, spaces_end, text_of};
 use crate::unescaped::Unescaped;
 
 /// A flat object: its members in the order of the line.
@@ -51,10 +51,7 @@ fn read_object<'a>(line: &'a str, room: TextRoom<'a>, found: &mut Members<'a>) -
     ensures { OnSome result (read line.now ≡ Some (flat_data found.new.list.items)) }
 {
     let bytes = line.as_bytes();
-    let brace = spaces_end(bytes, 0);
-    if byte_at(bytes, brace) != b'{' {
-        return None;
-    }
+    let brace = place_of(bytes, 0, b'{')?;
     let after = read_members(line, brace + 1, room, found)?;
     if spaces_end(bytes, after) < bytes.len() {
         return None;
@@ -102,11 +99,9 @@ fn read_member<'a>(
     ensures bounds { IfSome result (λ r. (from < r.1) × (r.1 ≤ length line.now)) }
 {
     let bytes = line.as_bytes();
-    let (key, after) = read_key(bytes, spaces_end(bytes, from))?;
-    let between = spaces_end(bytes, after);
-    if byte_at(bytes, between) != b':' {
-        return None;
-    }
+    let quote = place_of(bytes, from, b'"')?;
+    let (key, after) = read_key(bytes, quote)?;
+    let between = place_of(bytes, after, b':')?;
     let (value, end) = read_value(line, spaces_end(bytes, between + 1), room)?;
     Some((Member { key, value }, spaces_end(bytes, end)))
 }

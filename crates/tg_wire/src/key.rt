@@ -1,6 +1,7 @@
 //! The keys that the objects of lines have.
 
-ghost use Rattle.std.specs.Prelude.{◌≡◌, ◌↔◌, ◌∷◌, ◌++◌, [], IfSome, IfNone, true};
+ghost use Rattle.std.specs.Prelude.{◌≡◌, ◌≤◌, ◌↔◌, ◌∷◌, ◌++◌, [], IfSome, IfNone, length, take, true};
+ghost use Rattle.std.specs.Int.{from_le_bytes, w32};
 ghost use Rattle.std.specs.Io.{StartsWith};
 ghost use Rattle.std.specs.Str.{bytes_eq};
 ghost use Rattle.tg_wire.specs.Inner.Keys.{is_in_set, is_listed, is_listed_in_either, key_bit, key_place, key_text};
@@ -172,7 +173,7 @@ impl Key {
     }
 
     /// Whether the word of the key begins these bytes, with a quote after it.
-    // With the key a constant, as in each call, the loop becomes a comparison for each letter.
+    // With the key a constant, as in each call, four letters become one comparison, and the loop one for each letter.
     #[inline(always)]
     fn is_before_quote(self, bytes: &[u8]) -> bool
         ensures { (result ≡ true) ↔ StartsWith bytes.now (key_text self ++ 34 ∷ []) }
@@ -180,6 +181,9 @@ impl Key {
         let word = self.word().as_bytes();
         if bytes.len() <= word.len() {
             return false;
+        }
+        if word.len() == 4 {
+            return bytes[4] == b'"' && have_same_four(bytes, word);
         }
         let mut at = 0;
         while at < word.len() {
@@ -278,6 +282,25 @@ impl Key {
         }
         false
     }
+}
+
+/// Whether both begin with the same four bytes.
+#[inline(always)]
+fn have_same_four(bytes: &[u8], word: &[u8]) -> bool
+    requires bytes { 4 ≤ length bytes.now }
+    requires word { 4 ≤ length word.now }
+    ensures { (result ≡ true) ↔ (take 4 bytes.now ≡ take 4 word.now) }
+{
+    first_four(bytes) == first_four(word)
+}
+
+/// The first four bytes, as a number.
+#[inline(always)]
+fn first_four(bytes: &[u8]) -> u32
+    requires { 4 ≤ length bytes.now }
+    ensures { result ≡ from_le_bytes w32 (take 4 bytes.now) }
+{
+    u32::from_le_bytes([bytes[0], bytes[1], bytes[2], bytes[3]])
 }
 
 /// The word of one of the keys in the lists.

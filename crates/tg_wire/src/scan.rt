@@ -58,6 +58,26 @@ pub(crate) fn spaces_end(bytes: &[u8], from: usize) -> usize
     at
 }
 
+/// The place of this byte, from which it may stand behind spaces.
+// Most lines have no spaces, so that the byte is looked for first.
+#[inline(always)]
+pub(crate) fn place_of(bytes: &[u8], from: usize, byte: u8) -> Option<usize>
+    requires { from ≤ length bytes.now }
+    ensures spaces { IfSome result (λ at. lex between (drop from bytes.now) ≡ lex between (drop at bytes.now)) }
+    ensures byte { IfSome result (λ at. get_or bytes.now at 32 ≡ byte) }
+    ensures order { IfSome result (λ at. from ≤ at) }
+    ensures bound { IfSome result (λ at. at < length bytes.now) }
+{
+    if from < bytes.len() && bytes[from] == byte {
+        return Some(from);
+    }
+    let at = spaces_end(bytes, from);
+    if at < bytes.len() && bytes[at] == byte {
+        return Some(at);
+    }
+    None
+}
+
 #[inline(always)]
 fn is_space(byte: u8) -> bool
     ensures { result ≡ is_space byte }
@@ -143,16 +163,14 @@ fn read_digits(bytes: &[u8], from: usize) -> Option<(u64, usize)>
     Some((number, at))
 }
 
-/// The key at a place, if one is there, and the place after it.
+/// The key after the quote at a place, if one is there, and the place after it.
 #[inline(always)]
 pub(crate) fn read_key(bytes: &[u8], quote: usize) -> Option<(Key, usize)>
-    requires { quote ≤ length bytes.now }
+    requires bound { quote < length bytes.now }
+    requires opens { get_or bytes.now quote 32 ≡ 34 }
     ensures found { IfSome result (λ r. lex between (drop quote bytes.now) ≡ token (string (key_text r.0)) ∷ lex between (drop r.1 bytes.now)) }
     ensures bounds { IfSome result (λ r. (quote < r.1) × (r.1 ≤ length bytes.now)) }
 {
-    if byte_at(bytes, quote) != b'"' {
-        return None;
-    }
     let key = Key::before_quote(&bytes[quote + 1..])?;
     Some((key, quote + key.word().len() + 2))
 }

@@ -13,4 +13,4 @@ returns-clause-found c =
     let i = c.args.quote in
     let key = c.in_ok-key.key in
     let starts = subst (λ xs. StartsWith xs (quoted (key_text key))) (take_rest d (i + 1)) c.in_ok-key.ensures.some in
-    key_at d i key (sym c.byte_at.ensures ∙ c.if-byte_at-ne34.false) starts ∙ ap (λ n. token (string (key_text key)) ∷ lex between (drop (i + n + 2) d)) (sym (ap length c.word.ensures))
+    key_at d i key c.requires.opens starts ∙ ap (λ n. token (string (key_text key)) ∷ lex between (drop (i + n + 2) d)) (sym (ap length c.word.ensures))
