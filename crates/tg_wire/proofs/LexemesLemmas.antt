@@ -1,16 +1,16 @@
 -- What JSON's lexer finds at a place of a line.
-use Rattle.std.proofs.Common.{◌≡◌, ℕ, suc, ◌+◌, ◌-◌, ◌<◌, ◌≤◌, Bool, true, false, cond, ◌||◌, ◌==◌, List, [], ◌∷◌, ◌++◌, length, take, drop, get_or, nat_lt, Option, Some, None, is_some, option_and_then, refl, sym, ap, ◌∙◌, arith, add-zero, lt_of_not-le}
+use Rattle.std.proofs.Common.{◌≡◌, ℕ, suc, ◌+◌, ◌-◌, ◌*◌, ◌<◌, ◌≤◌, Bool, true, false, cond, ◌&&◌, ◌||◌, ◌==◌, List, [], ◌∷◌, ◌++◌, length, take, drop, get_or, nat_lt, Option, Some, None, is_some, option_and_then, refl, sym, ap, ◌∙◌, arith, add-zero, lt_of_not-le}
 use Rattle.std.proofs.lemmas.List.{drop_more, drop-drop, append-nil, append_assoc, get_or-drop, get_or_past, length-drop}
 use Rattle.std.proofs.lemmas.Bool.{cond-false, cond-true, true_from_ne_false, eqb-true, ne_eqb, or_parts, not-true, false≢true}
 use Rattle.std.proofs.lemmas.List.Sums.{prefix_len-le-length}
 use Rattle.std.specs.List.{prefix_len}
-use Rattle.std.specs.Char.{is_ascii_digit}
+use Rattle.std.specs.Char.{IsScalar, digit_value, encode_utf8, is_ascii_digit}
 use Rattle.json.specs.Token.{string, number, boolean, null}
-use Rattle.json.specs.Text.{content, plain, after_backslash, prepend, short_escape}
+use Rattle.json.specs.Text.{code_unit, content, plain, after_backslash, after_high, is_high_surrogate, is_low_surrogate, prepend, short_escape}
 use Rattle.json.specs.Ascii.{true_text, false_text, null_text}
 use Rattle.json.specs.Word.{head, is_operator, is_space, ends_word, after_minus, after_digits, after_whole, after_fraction, after_exponent, after_number, number_before, literal, word}
 use Rattle.json.specs.Run.{is_plain}
-use Rattle.tg_wire.specs.Inner.Runs.{Decodes}
+use Rattle.tg_wire.specs.Inner.Runs.{Decodes, IsHex, SpellsCharacter}
 use Rattle.json.specs.Lex.{Lexeme, token, quote, backslash, operator, space, other, class, operator_lexeme, string_token, Mode, between, in_word, in_string, lex_byte, lex}
 
 -- ---- one byte
@@ -204,6 +204,74 @@ reads_escape d at c is means =
 pub escape_within : (d : List ℕ) (at c : ℕ) → short_escape (get_or d (at + 1) 32) ≡ Some c → at + 2 ≤ length d
 escape_within d at c means =
     let inside = within d (at + 1) _ refl (no_blank _ c means) in
+    omega arith
+
+-- ---- four hex digits behind a backslash and a `u`
+
+hex_plain : (x : ℕ) → digit_value x < 16 → is_plain x ≡ true
+hex_plain x small = grind arith
+
+hex_byte : (d : List ℕ) (at digit : ℕ) → IsHex d at digit → (get_or d at 32 ≡ 32 → ⊥)
+hex_byte d at digit is blank = omega (arith, ap digit_value blank, is.value, is.small)
+
+hex_over : (d : List ℕ) (at digit : ℕ) → IsHex d at digit → (xs : List ℕ) → lex in_string (get_or d at 32 ∷ xs) ≡ lex in_string xs
+hex_over d at digit is xs = plain_over (get_or d at 32) xs (hex_plain (get_or d at 32) (omega (arith, is.value, is.small)))
+
+hex_at : (d : List ℕ) (at digit : ℕ) → IsHex d at digit → drop at d ≡ get_or d at 32 ∷ drop (at + 1) d
+hex_at d at digit is = at_place d at (get_or d at 32) refl (hex_byte d at digit is)
+
+spelled_unit : (a b e f : ℕ) → digit_value a < 16 → digit_value b < 16 → digit_value e < 16 → digit_value f < 16
+    → code_unit a b e f ≡ Some (digit_value a * 4096 + digit_value b * 256 + digit_value e * 16 + digit_value f)
+unfolding code_unit
+spelled_unit a b e f first second third fourth =
+    let is : (x : ℕ) → x < 16 → nat_lt x 16 ≡ true = λ x small. grind arith in
+    λ i. cond (is _ first i && is _ second i && is _ third i && is _ fourth i) (Some (digit_value a * 4096 + digit_value b * 256 + digit_value e * 16 + digit_value f)) None
+
+not_high : (c : ℕ) → IsScalar c → is_high_surrogate c ≡ false
+not_high c is = grind arith
+
+not_low : (c : ℕ) → IsScalar c → is_low_surrogate c ≡ false
+not_low c is = grind arith
+
+unit_content : (a b e f u : ℕ) (xs : List ℕ) → code_unit a b e f ≡ Some u → is_high_surrogate u ≡ false → is_low_surrogate u ≡ false
+    → content plain (92 ∷ 117 ∷ a ∷ b ∷ e ∷ f ∷ xs) ≡ prepend (encode_utf8 u) (content plain xs)
+unfolding content
+unit_content a b e f u xs is high low =
+    ap (option_and_then (λ c. cond (is_high_surrogate c) (content (after_high c) xs) (cond (is_low_surrogate c) None (prepend (encode_utf8 c) (content plain xs))))) is
+    ∙ cond-false (is_high_surrogate u) _ _ high ∙ cond-false (is_low_surrogate u) _ _ low
+
+-- a character that is spelled
+pub reads_unit : (d : List ℕ) (at c : ℕ) → get_or d at 32 ≡ 92 → get_or d (at + 1) 32 ≡ 117 → SpellsCharacter d (at + 2) c → ReadsOn d at (at + 6) (encode_utf8 c)
+reads_unit d at c opens unit spelled =
+    let x1 = get_or d (at + 2) 32 in
+    let x2 = get_or d (at + 2 + 1) 32 in
+    let x3 = get_or d (at + 2 + 2) 32 in
+    let x4 = get_or d (at + 2 + 3) 32 in
+    let rest = drop (at + 6) d in
+    let two : at + 1 + 1 ≡ at + 2 = omega arith in
+    let four : at + 2 + 1 + 1 ≡ at + 2 + 2 = omega arith in
+    let five : at + 2 + 2 + 1 ≡ at + 2 + 3 = omega arith in
+    let six : at + 2 + 3 + 1 ≡ at + 6 = omega arith in
+    let from_fourth : drop (at + 2 + 3) d ≡ x4 ∷ rest = hex_at d (at + 2 + 3) spelled.f spelled.fourth ∙ ap (λ k. x4 ∷ drop k d) six in
+    let from_third : drop (at + 2 + 2) d ≡ x3 ∷ x4 ∷ rest = hex_at d (at + 2 + 2) spelled.e spelled.third ∙ ap (λ k. x3 ∷ drop k d) five ∙ ap (λ l. x3 ∷ l) from_fourth in
+    let from_second : drop (at + 2 + 1) d ≡ x2 ∷ x3 ∷ x4 ∷ rest = hex_at d (at + 2 + 1) spelled.b spelled.second ∙ ap (λ k. x2 ∷ drop k d) four ∙ ap (λ l. x2 ∷ l) from_third in
+    let from_first : drop (at + 2) d ≡ x1 ∷ x2 ∷ x3 ∷ x4 ∷ rest = hex_at d (at + 2) spelled.a spelled.first ∙ ap (λ l. x1 ∷ l) from_second in
+    let all : drop at d ≡ 92 ∷ 117 ∷ x1 ∷ x2 ∷ x3 ∷ x4 ∷ rest =
+    at_place d at 92 opens (λ z. omega arith) ∙ ap (λ l. 92 ∷ l) (at_place d (at + 1) 117 unit (λ z. omega arith) ∙ ap (λ k. 117 ∷ drop k d) two ∙ ap (λ l. 117 ∷ l) from_first) in
+    let is : code_unit x1 x2 x3 x4 ≡ Some c =
+    spelled_unit x1 x2 x3 x4 (omega (arith, spelled.first.value, spelled.first.small)) (omega (arith, spelled.second.value, spelled.second.small))
+    (omega (arith, spelled.third.value, spelled.third.small)) (omega (arith, spelled.fourth.value, spelled.fourth.small))
+    ∙ ap Some (omega (arith, spelled.first.value, spelled.second.value, spelled.third.value, spelled.fourth.value, spelled.is)) in
+    record {
+      content = ap (content plain) all ∙ unit_content x1 x2 x3 x4 c rest is (not_high c spelled.scalar) (not_low c spelled.scalar);
+      after = ap (lex in_string) all ∙ escaped_over 117 (x1 ∷ x2 ∷ x3 ∷ x4 ∷ rest) ∙ hex_over d (at + 2) spelled.a spelled.first (x2 ∷ x3 ∷ x4 ∷ rest)
+          ∙ hex_over d (at + 2 + 1) spelled.b spelled.second (x3 ∷ x4 ∷ rest) ∙ hex_over d (at + 2 + 2) spelled.e spelled.third (x4 ∷ rest)
+          ∙ hex_over d (at + 2 + 3) spelled.f spelled.fourth rest;
+    }
+
+pub unit_within : (d : List ℕ) (at c : ℕ) → SpellsCharacter d at c → at + 4 ≤ length d
+unit_within d at c spelled =
+    let inside = within d (at + 3) _ refl (hex_byte d (at + 3) spelled.f spelled.fourth) in
     omega arith
 
 pub decoded : (d : List ℕ) (from end : ℕ) (text : List ℕ) → ReadsOn d from end text → get_or d end 32 ≡ 34 → Decodes d from text (end + 1)

@@ -1,10 +1,12 @@
-//! A text in which a backslash and one byte stand for a byte, read in its place.
+//! A text in which a backslash and one byte stand for a byte, or `\u` and four hex digits for a character, read in its
+//! place.
 
-ghost use Rattle.std.specs.Prelude.{◌≡◌, ◌<◌, ◌≤◌, ◌∷◌, Some, IfOk, IfSome, length, drop};
+ghost use Rattle.std.specs.Prelude.{◌≡◌, ◌<◌, ◌≤◌, ◌∷◌, ◌++◌, Some, IfOk, IfSome, OnOk, length, drop};
+ghost use Rattle.std.specs.Char.{encode_utf8};
 ghost use Rattle.json.specs.Token.{string};
 ghost use Rattle.json.specs.Lex.{token, between, lex};
 ghost use Rattle.json.specs.Text.{short_escape};
-ghost use Rattle.tg_wire.specs.Inner.Runs.{Decodes};
+ghost use Rattle.tg_wire.specs.Inner.Runs.{Decodes, IsHex, SpellsCharacter};
 
 use crate::scan::{byte_at, plain_end, text_of};
 use std::alloc::AllocError;
@@ -60,11 +62,20 @@ fn decode(bytes: &[u8], from: usize, text: &mut Vec<u8>) -> Result<Option<usize>
         match byte_at(bytes, end) {
             b'"' => return Ok(Some(end + 1)),
             b'\\' => {
-                let Some(byte) = meant(byte_at(bytes, end + 1)) else {
-                    return Ok(None);
-                };
-                text.push(byte)?;
-                at = end + 2;
+                let letter = byte_at(bytes, end + 1);
+                if letter == b'u' {
+                    let Some(character) = spelled_at(bytes, end + 2) else {
+                        return Ok(None);
+                    };
+                    push_character(text, character)?;
+                    at = end + 6;
+                } else {
+                    let Some(byte) = meant(letter) else {
+                        return Ok(None);
+                    };
+                    text.push(byte)?;
+                    at = end + 2;
+                }
             }
             _ => return Ok(None),
         }
@@ -84,4 +95,31 @@ fn meant(byte: u8) -> Option<u8>
         b't' => Some(b'\t'),
         _ => None,
     }
+}
+
+/// The character that the four hex digits from a place on spell. `None` for a surrogate, which stands only in a pair.
+fn spelled_at(bytes: &[u8], at: usize) -> Option<char>
+    requires { at ≤ length bytes.now }
+    ensures { IfSome result (SpellsCharacter bytes.now at) }
+{
+    let first = hex_at(bytes, at)?;
+    let second = hex_at(bytes, at + 1)?;
+    let third = hex_at(bytes, at + 2)?;
+    let fourth = hex_at(bytes, at + 3)?;
+    char::from_u32(first * 4096 + second * 256 + third * 16 + fourth)
+}
+
+/// The value of the hex digit at a place, if one is there.
+fn hex_at(bytes: &[u8], at: usize) -> Option<u32>
+    ensures { IfSome result (IsHex bytes.now at) }
+{
+    char::from(byte_at(bytes, at)).to_digit(16)
+}
+
+/// Adds the bytes of a character.
+fn push_character(text: &mut Vec<u8>, character: char) -> Result<(), AllocError>
+    ensures { OnOk result (text.new.items ≡ text.old.items ++ encode_utf8 character) }
+{
+    let mut room = [0; 4];
+    text.extend_from_slice(character.encode_utf8(&mut room).as_bytes())
 }

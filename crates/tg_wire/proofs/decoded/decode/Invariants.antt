@@ -2,8 +2,8 @@ use Rattle.std.proofs.Common.{◌-◌, ◌≤◌, length}
 use Rattle.tg_wire.proofs.LexemesLemmas.{ReadsOn}
 use Rattle.tg_wire.proofs.decoded.decode.Given as goal
 
-abbrev pub invariant-loop-byte : goal.invariant-loop-byte
-invariant-loop-byte l = ReadsOn l.bytes l.from l.at l.text.items × (l.from ≤ l.at) × (l.at ≤ length l.bytes)
+abbrev pub invariant-loop-letter : goal.invariant-loop-letter
+invariant-loop-letter l = ReadsOn l.bytes l.from l.at l.text.items × (l.from ≤ l.at) × (l.at ≤ length l.bytes)
 
-abbrev pub decreases-loop-byte : goal.decreases-loop-byte
-decreases-loop-byte l = length l.bytes - l.at
+abbrev pub decreases-loop-letter : goal.decreases-loop-letter
+decreases-loop-letter l = length l.bytes - l.at
