@@ -31,6 +31,16 @@ const EVENTS: &[EventCase] = &[
         seat: 0,
     },
     EventCase {
+        line: b"{\"op\":\"hello\",\"name\":\"\\u00e9\\u20AC\\n\"}",
+        word: "\u{e9}\u{20ac}\n",
+        seat: 0,
+    },
+    EventCase {
+        line: b"{\"op\":\"hello\",\"name\":\"\\ud834\\udd1e\"}",
+        word: "\u{1d11e}",
+        seat: 0,
+    },
+    EventCase {
         line: b"{\"op\":\"bye\",\"seat\":63}",
         word: "bye",
         seat: 63,

@@ -1,5 +1,5 @@
 //! A line's object in which each key is one that some line has, and each member a text or a whole number, as a list of
-//! its members; and how it is read if at most one text has escapes, each of a backslash and one byte.
+//! its members; and how it is read if at most one text has escapes, none of them a surrogate.
 
 ghost use Rattle.std.specs.Prelude.{◌≡◌, ◌<◌, ◌≤◌, ◌∷◌, ◌++◌, [], Some, IfSome, OnSome, option_map, length, drop, if◌then◌else◌};
 ghost use Rattle.std.specs.Str.{bytes_eq};

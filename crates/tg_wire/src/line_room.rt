@@ -5,8 +5,8 @@ use json::Scratch;
 use std::alloc::{AllocError, Global};
 use std::marker::Model;
 
-/// Room for the texts of a line that is read and has escapes: for one with escapes of two bytes, and for all of a line
-/// with others. Either is made at the first such line, and grows to the length of the longest.
+/// Room for the texts of a line that is read and has escapes: for one such text, and for all of a line with more, or
+/// with a surrogate pair. Either is made at the first such line, and grows to the length of the longest.
 #[derive(Drop)]
 pub(crate) struct TextsRoom {
     text: Vec<u8>,

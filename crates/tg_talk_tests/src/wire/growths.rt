@@ -58,11 +58,11 @@ fn growth_refused_in_read_goal(rt: HostRuntime) {
     assert!(rt; matches!(&answered(&rt, the_goal_is_read), Ok(true)));
 }
 
-/// The step of a derivation, its op with an escape: without one it allocates nothing.
+/// The step of a derivation, two of its texts with escapes: with fewer it is read flat.
 fn the_step_is_read(alloc: Global) -> Result<bool, WireFault> {
     let step = read_step(
         alloc,
-        b"{\"actor\":1,\"from\":2,\"op\":\"t\\u0061ke\",\"over\":3,\"rights\":\"r\"}",
+        b"{\"actor\":1,\"from\":2,\"op\":\"t\\u0061ke\",\"over\":3,\"rights\":\"\\u0072\"}",
     )?;
     match &step.command {
         Command::Take { rights, over, from } => {
