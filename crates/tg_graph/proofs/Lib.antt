@@ -15,6 +15,7 @@ pub mod PartsLemmas
 pub mod PartsStayLemmas
 pub mod ProtectionLemmas
 pub mod RepliesAgreeLemmas
+pub mod RestrictingLemmas
 pub mod RestrictionLemmas
 pub mod RewritingLemmas
 pub mod RollLemmas

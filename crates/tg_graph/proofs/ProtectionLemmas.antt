@@ -3,7 +3,7 @@
 use Rattle.std.proofs.Common.{◌≡◌, ◌≢◌, ℕ, ◌∷◌, [], List, Bool, true, false, not, sym, ap, subst, ◌∙◌, ◌&&◌, ◌||◌, inl, inr, Some, None, arith}
 use Rattle.std.proofs.lemmas.Bool.{not-true, eq-eqb}
 use Rattle.std.specs.FinSet as set
-use Rattle.tg_rights.specs.Promise.Letters.{Letters, Right, read, take, has, is_none, includes}
+use Rattle.tg_rights.specs.Promise.Letters.{Letters, Right, read, has, is_none, includes}
 use Rattle.tg_rights.specs.declared.command.Command.{Command}
 use Rattle.tg_graph.specs.declared.rules.Need.{Need}
 use Rattle.tg_graph.specs.Promise.Terms as effect

@@ -4,3 +4,4 @@ pub mod Searching
 pub mod Parts
 pub mod Views
 pub mod Codes
+pub mod Restricting

@@ -12,6 +12,7 @@ mod graph;
 mod member;
 mod parts;
 mod repeating;
+mod restricting;
 mod roll;
 mod rules;
 mod search;

@@ -192,3 +192,9 @@ pub record IsRestriction (G H : Protection) (IsKept : ℕ → Type 0) : Type 0 w
   pub part : IsPart (record G { retired = H.retired }) H
   pub retired : (v : ℕ) → (has_retired H v ≡ true) ↔ (IsVertex H v × (has_retired G v ≡ true))
   pub next : H.next ≡ G.next
+
+-- what may be kept of G: vertices, the active principals among them, from which edges lead to kept ones
+pub record IsClosed (G : Protection) (IsKept : ℕ → Type 0) : Type 0 where
+  pub vertices : (v : ℕ) → IsKept v → IsVertex G v
+  pub step : (v w : ℕ) → IsKept v → IsEdge G v w → IsKept w
+  pub principals : (m : Member) → Contains G.names m → IsKept m.serial
