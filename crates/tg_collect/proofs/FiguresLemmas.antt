@@ -56,7 +56,7 @@ filter_apart p (e ∷ es) d = elim (p e) as (λ b. Rises (λ d e. d.serial ≢ e
 ]
 
 module _ (v : Stored) (parked : Bool) where
-  named : (b : Bool) (i x : ℕ) → source_at v b i ≡ Some x → serial_in_slot v i ≡ Some x
+  pub named : (b : Bool) (i x : ℕ) → source_at v b i ≡ Some x → serial_in_slot v i ≡ Some x
   named true i x is = is
   named false i x is = let k = place_kept v i x is in kept_name v.stage i (spot_at v i) k.0 k.1 ∙ ap (λ (y : ℕ). Some y) k.2
 

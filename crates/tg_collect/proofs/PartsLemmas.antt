@@ -3,7 +3,7 @@ use Rattle.std.proofs.Common.{◌≡◌, ◌<◌, ℕ, List, Option, Some, None,
 use Rattle.tg_collect.proofs.Common.{Contains, Edge, edges, spot_edges, Free, held, in_slot, is_none, is_some, IsStore, join, Kept, kept, Listed, lists_of, Machine, mark_at, Occupant, option_map, option_to_list, same_Some, kept_serial, slot, spot_at, Stored, stored, vertex}
 use Rattle.std.specs.Prelude.{IsSome}
 use Rattle.tg_marking.specs.Promise.Values as values
-use Rattle.tg_collect.specs.Promise.Readings.{serial_in_slot}
+use Rattle.tg_collect.specs.Promise.Readings.{IsHeldIn, place, serial_in_slot}
 use Rattle.tg_graph.specs.Promise.Opening as graph
 use Rattle.tg_graph.specs.Promise.Protection.{label}
 use Rattle.tg_graph.specs.Promise.Parts as listing
@@ -11,7 +11,7 @@ use Rattle.tg_graph.specs.Inner.Parts as Inner_listing
 use Rattle.tg_collect.specs.declared.figures.Figure.{Figure}
 use Rattle.tg_collect.specs.Promise.Figures.{IsArrow, figure, figure_in}
 use Rattle.tg_collect.specs.Inner.Figures.{arrows}
-use Rattle.tg_collect.specs.Promise.Parts.{ListsHeld}
+use Rattle.tg_collect.specs.Promise.Parts.{ListsHeld, ListsSerials}
 use Rattle.tg_collect.specs.Inner.Parts.{AreFound, listed_at, listed_as}
 use Rattle.tg_collect.proofs.FiguresLemmas.{given, taken}
 use Rattle.tg_collect.proofs.FoundLemmas.{chosen, optional}
@@ -43,6 +43,18 @@ listed_named v i x is = let k = listed_kept (kept v i) x is in kept_name v.stage
 module _ (v : Stored) (s : IsStore v) where
   once : Once v
   once = once_so v s.once
+
+  pub serials_held : (xs : List ℕ) → AreFound (λ i. option_to_list (place v i)) (λ a b. a < b) xs → ListsSerials v xs
+  serials_held xs found = record {
+    held = λ x. (
+      λ h. (
+          let at = (found.has x).0 h in
+          let t = place_kept v at.0 x (optional _ x at.1) in
+          subst (λ (y : ℕ). IsHeldIn v y) t.2 (ap is_some (vertex_found v 0 at.0 t.0 once t.1))),
+      λ is. (let at = s.has_place x is in (found.has x).1 (at.0, chosen _ x at.1)),
+    );
+    rising = found.rising;
+  }
 
   pub lists_held : (vs : List Listed) (es : List graph.ListedEdge) → AreFound (λ i. option_to_list (listed_at v i)) (λ a b. a.0 < b.0) vs → AreFound (arrows v false) listing.Before es → ListsHeld v vs es
   lists_held vs es found led = record {

@@ -98,7 +98,7 @@ impl Machine {
     }
 
     /// The serial of a slot's vertex; none if it has none, or if this waits to be swept and those are left out.
-    fn source_at(&self, id: u32, with_parked: bool) -> Option<u64>
+    pub(crate) fn source_at(&self, id: u32, with_parked: bool) -> Option<u64>
         requires { id < length self.now.heap.table.slots }
         ensures { result ≡ source_at (stored self.now) with_parked id }
     {

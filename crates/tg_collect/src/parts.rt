@@ -2,7 +2,8 @@
 ghost use Rattle.std.specs.Prelude.{◌≡◌, ◌<◌, length, map, IfOk};
 ghost use Rattle.std.specs.Option.{option_to_list};
 ghost use Rattle.tg_heap.specs.Promise.Graph.{edges};
-ghost use Rattle.tg_collect.specs.Promise.Parts.{ListsHeld};
+ghost use Rattle.tg_collect.specs.Promise.Parts.{ListsHeld, ListsSerials};
+ghost use Rattle.tg_collect.specs.Promise.Readings.{place};
 ghost use Rattle.tg_collect.specs.Inner.Parts.{AreFound, listed_at};
 ghost use Rattle.tg_collect.specs.Inner.Stored.{stored};
 ghost use Rattle.tg_collect.specs.Promise.Views.{IsStore};
@@ -27,6 +28,15 @@ impl Store {
         let edges = self.machine.arrows(alloc, false)?;
         Ok((vertices, edges))
     }
+
+    /// The serials of what is held, which rise. Allocates once, and the only error is that this failed.
+    pub fn serials(&self, alloc: Global) -> Result<Vec<u64>, AllocError>
+        ensures { IfOk result (λ found. ListsSerials self.now found.items) }
+    {
+        self.soundness();
+        let found = self.machine.serials(alloc)?;
+        Ok(found)
+    }
 }
 
 impl Machine {
@@ -41,6 +51,21 @@ impl Machine {
             add_found(&mut found, vertex)?;
         }
         found.sort_unstable_by_key(|vertex| vertex.0);
+        Ok(found)
+    }
+
+    /// The serials of the vertices that are held, which rise.
+    fn serials(&self, alloc: Global) -> Result<Vec<u64>, AllocError>
+        requires { IsStore (stored self.now) }
+        ensures { IfOk result (λ found. AreFound (λ i. option_to_list (place (stored self.now) i)) (λ a b. a < b) found.items) }
+    {
+        let mut found = Vec::with_capacity(alloc, self.heap.len() as usize)?;
+        for slot in 0..self.heap.len() {
+            let serial = self.source_at(slot, false);
+            add_found(&mut found, serial)?;
+        }
+        // As long as no slot was used again they are in order, and one look at each is enough.
+        found.sort_unstable_by_key(|serial| *serial);
         Ok(found)
     }
 
