@@ -369,19 +369,16 @@ def is_cut_off(one: Tried) -> bool:
     return one.found.answers == ALL_ANSWERS[:first] + [None] * len(scripts.TALKS[1])
 
 
-# Of a rebase behind the first talk: the lists of slots, vertices, edges and names, the three names,
-# two for each of the two maps, and the list of principals.
-REBASE_GROWTHS = 4 + 3 + 2 * 2 + 1
+# Of a rebase behind the first talk, in which something was freed: the list of what lives.
+REBASE_GROWTHS = 1
 
 
 def own_memory_refused_in_rounds(_: Path, tried: Servers) -> None:
     """One allocation of the server's own thread fails: in a round, in the settling at its end, or
-    in the rebase behind the first. There each of the two maps takes room for its elements at once;
-    if that fails, it does without."""
+    in the rebase behind the first."""
     server = stages(tried)[2]
     order = [end for end, _ in itertools.groupby(ends_of(server))]
-    maps = ["agreed", NOT_REBASED] * 2
-    wanted = [NOT_SETTLED, NOT_REBASED, *maps, NOT_SETTLED_LATER]
+    wanted = [NOT_SETTLED, NOT_REBASED, NOT_SETTLED_LATER]
     same(order, wanted, "what is refused, in order")
     settling = [one for one in server if one.end == NOT_SETTLED]
     assert any(map(is_cut_off, settling)), "settling the first round takes no growth"

@@ -10,16 +10,20 @@ use Rattle.tg_rights.specs.declared.outcome.Outcome.{Outcome}
 use Rattle.tg_rights.specs.declared.outcome.Outcome.TheVariants as outcome
 use Rattle.tg_rights.specs.declared.outcome.Which.{Which}
 use Rattle.tg_rights.specs.declared.outcome.Which.TheVariants as which
+use Rattle.tg_lists.specs.Promise.Membership.{Contains}
+use Rattle.tg_rights.specs.declared.kind.Kind.TheVariants as kind
 use Rattle.tg_graph.specs.declared.member.Member.{Member}
 use Rattle.tg_graph.specs.Promise.Fullness.{Limits, MayBeFull, Permitted, vertex_count}
 use Rattle.tg_graph.specs.Promise.Laws.{RestrictionsAgree, RestrictionsPermit, RestrictionsReply, RestrictionsStay}
-use Rattle.tg_graph.specs.Promise.Protection.{has_serial, IsPart, IsRestriction, Live, Protection, IsGraph, IsVertex, has_retired, is_active, label}
+use Rattle.tg_graph.specs.Promise.Protection.{has_serial, IsClosed, IsPart, IsRestriction, Live, Protection, IsGraph, IsVertex, has_retired, is_active, label}
 use Rattle.tg_graph.specs.Promise.Rules.{is_create, next_graph, reply_of}
+use Rattle.tg_graph.proofs.RestrictingLemmas.{one_restriction}
 use Rattle.tg_graph.proofs.RestrictionLemmas.{by_vertices, whole}
 use Rattle.tg_graph.proofs.RollLemmas.{any_is, contains_filter, filter_contains, is_any}
 use Rattle.tg_graph.proofs.VertexLemmas.{IsVertex-from_kind}
 use Rattle.tg_collect.specs.declared.note.Note.{Note}
 use Rattle.tg_collect.specs.declared.note.Phase.TheVariants.{Idle}
+use Rattle.tg_collect.specs.Promise.Parts.{ListsSerials}
 use Rattle.tg_collect.specs.Promise.Readings.{phase, free_slots, parked_count}
 use Rattle.tg_collect.specs.Promise.Runs as runs
 use Rattle.tg_collect.specs.Promise.Views.{IsStore}
@@ -39,7 +43,7 @@ use Rattle.tg_vault.specs.Promise.Rebase.{IsRebased, RepliedAlike, ThreeCycles}
 use Rattle.tg_vault.specs.Inner.Rebase.{reopening}
 use Rattle.tg_vault.proofs.CourseLemmas.{course_keeps, course_run}
 use Rattle.tg_vault.proofs.CycleLemmas.{course_coherent, from_idle, live_so}
-use Rattle.tg_vault.proofs.DecidedLemmas.{graph_is}
+use Rattle.tg_vault.proofs.DecidedLemmas.{graph_is, held_is, of_graph}
 use Rattle.tg_vault.proofs.FitsLemmas.{fits_are}
 use Rattle.tg_vault.proofs.FreshLemmas.{begins_tied}
 use Rattle.tg_vault.proofs.HistoryLemmas.{IsLawful, active_subject, asks_subject, turn_keeps}
@@ -308,3 +312,20 @@ all_held w there idle count were = sym (whole (graph_now w) (reopening w) own (g
       let all : free_slots w.store + vertex_count (reopening w) + parked_count w.store ≡ w.limits.slots = (fits_are w there.ties there.store).slots in
       let none = idle_none_parked w.store idle in
       omega (arith, all, none, count)
+
+-- the graph of the history without what is not held is what is held
+module _ (w : Contents) (there : IsCoherent w) (xs : List ℕ) (listed : ListsSerials w.store xs) where
+  pub held_closed : IsClosed (graph_now w) (Contains xs)
+  held_closed = record {
+    vertices = λ x h. of_graph w there.ties there.store x ((listed.held x).0 h);
+    step = λ x y h e. (listed.held y).1 (there.ties.part.closed x y ((listed.held x).0 h) e);
+    principals = λ m h. (listed.held m.serial).1 (IsVertex-from_kind (held_now w) m.serial kind.Subject ((held_is w there.ties there.store).roll.subjects m h));
+  }
+
+  pub held_left : (G : Protection) → IsRestriction (graph_now w) G (Contains xs) → IsGraph G → G ≡ reopening w
+  held_left G r g = one_restriction (graph_now w) G (reopening w) (Contains xs) g (reopening_graph w there) r (record {
+    kept = λ x. (λ h. (listed.held x).1 h, λ h. (listed.held x).0 h);
+    part = retired_aside (graph_now w) (held_now w) (reopening w).retired there.ties.part;
+    retired = kept_retired w;
+    next = refl;
+  })

@@ -88,8 +88,9 @@ impl Vault {
         }
     }
 
-    /// As `rebase_with_past`, of a vault with the graph of its history, as a replay leaves it: if all of that is live,
-    /// it becomes the opening graph, and none has to be made.
+    /// As `rebase_with_past`, of a vault with the graph of its history, as a replay leaves it: what is live of that
+    /// becomes the opening graph, and none has to be made. Allocates nothing if all of it is live, and otherwise once,
+    /// for the serials of what is.
     pub fn rebase_with_graph(self, graph: Graph) -> (Rebased, Past)
         requires { graph ≡ graph_now self }
         ensures rebased { Rebases self result.0 }
@@ -167,19 +168,33 @@ impl Vault {
         self.cycle();
     }
 
-    /// What is held, as a graph of its own, and with it those of the retired that are held: the graph of the history,
-    /// if that is passed in and all of it is held.
+    /// What is held, as a graph of its own, and with it those of the retired that are held: what is left of the graph of
+    /// the history, if that is passed in.
     fn opening_anew(&self, graph: Option<Graph>) -> Result<Graph, AllocError>
         requires graph { IfSome graph (λ g. g ≡ graph_now self.now) }
         requires idle { phase self.now.store ≡ Idle }
         ensures { IfOk result (λ opening. opening ≡ reopening self.now) }
     {
-        if let Some(whole) = graph
-            && self.holds_all(&whole)
-        {
+        match graph {
+            Some(whole) => self.left_of(whole),
+            None => self.live_graph(),
+        }
+    }
+
+    /// What is held of the graph of the history. If that is all of it, it allocates nothing, and otherwise once.
+    fn left_of(&self, whole: Graph) -> Result<Graph, AllocError>
+        requires whole { whole ≡ graph_now self.now }
+        requires idle { phase self.now.store ≡ Idle }
+        ensures { IfOk result (λ opening. opening ≡ reopening self.now) }
+    {
+        if self.holds_all(&whole) {
             return Ok(whole);
         }
-        self.live_graph()
+        self.soundness();
+        let held = self.state.store.serials(self.alloc)?;
+        let mut graph = whole;
+        graph.restrict(held.as_slice());
+        Ok(graph)
     }
 
     /// Whether all of the graph of the history is held.
