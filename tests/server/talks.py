@@ -1,5 +1,7 @@
 """What one client of a server gets, line by line."""
 
+import contextlib
+import socket
 import time
 from pathlib import Path
 from typing import Any
@@ -224,6 +226,50 @@ def lines_up_to_the_limit(program: Path) -> None:
         server.greet()
 
 
+# Commands that a web page could have sent here as the body of a request, behind lines that are no
+# JSON, and how such a connection begins: requests of HTTP, a handshake of TLS (RFC 8446, 5.1) and
+# requests of STUN and TURN (RFC 8489, 5 and 18.2; RFC 8656).
+BODY = HELLO + RETIRE
+HEAD = b" / HTTP/1.1\r\nHost: 127.0.0.1\r\nContent-Length: %d\r\n\r\n" % len(BODY)
+METHODS = b"GET POST PUT HEAD OPTIONS DELETE PATCH CONNECT TRACE PRI".split()
+OTHERS = [method + HEAD for method in METHODS]
+OTHERS += [b"\x16\x03\x01\x02\n", b"\x00\x01\x00\x08\n", b"\x00\x03\x00\x08\n"]
+
+
+def ended_unanswered(one: socket.socket, pieces: list[bytes]) -> None:
+    """Whether the server ends a connection over which these are sent without an answer."""
+    with contextlib.suppress(ConnectionError):
+        for piece in pieces:
+            one.sendall(piece)
+            time.sleep(0.001)
+        same(read_all(one), b"")
+
+
+def other_protocols(program: Path) -> None:
+    """A connection that begins as another protocol does is closed unanswered, in however many
+    pieces it comes, and no line of it is carried out: alice, whom each of them would retire, says
+    hello afterwards."""
+    with served(program, 1, 2 * len(OTHERS) + 1) as server:
+        for start in OTHERS:
+            with server.connection() as one:
+                ended_unanswered(one, [start + BODY])
+            with server.connection() as one:
+                ended_unanswered(one, [start[:1], start[1:2], start[2:] + BODY])
+        server.greet()
+
+
+def no_other_protocol(program: Path) -> None:
+    """Any other first line that is no JSON is answered as such, and those behind it are taken; so
+    is a line like a request of HTTP that is not the first one."""
+    firsts = [b"no json\n", b"POST\n", b"get /\n", b" GET /\n", b"\nGET /\n", b"\x16\n"]
+    for first in firsts:
+        count = first.count(b"\n")
+        with served(program, 1, 1) as server:
+            same(server.exchange(first + HELLO + BYE), NOT_JSON * count + WELCOME + PARTED)
+    with served(program, 1, 1) as server:
+        same(server.exchange(HELLO + b"GET / HTTP/1.1\n" + BYE), WELCOME + NOT_JSON + PARTED)
+
+
 def million_lines(program: Path) -> None:
     """The millionth line of a talk is carried out; the line after it is one too many, and ends the
     talk. The seat is free then."""
@@ -286,6 +332,8 @@ def tests() -> Tests:
     yield "refusals-of-a-client", refusals_of_a_client
     yield "after-bye", after_bye
     yield "lines-up-to-the-limit", lines_up_to_the_limit
+    yield "other-protocols", other_protocols
+    yield "no-other-protocol", no_other_protocol
     yield "million-lines", million_lines
     yield "cut-after-each-byte", cut_after_each_byte
     yield "dropped-after-each-byte", dropped_after_each_byte

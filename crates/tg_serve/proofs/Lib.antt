@@ -1,3 +1,4 @@
+mod BeginningLemmas
 mod ServingLemmas
 mod RoundsLemmas
 mod MeaningsLemmas

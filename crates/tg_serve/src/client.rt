@@ -1,7 +1,9 @@
 //! A client's connection, as its talk reads and writes it. Each read and write of the connection itself ends after a
 //! tick, so that it is noticed when the client has kept the server waiting for too long, or when its round is over.
-ghost use Rattle.std.specs.Prelude.{◌≡◌, ◌≤◌, ◌<◌, ℕ, length, IfOk};
+ghost use Rattle.std.specs.Prelude.{◌≡◌, ◌≤◌, ◌<◌, ◌++◌, ℕ, false, length, take, IfOk};
+ghost use Rattle.tg_serve.specs.Inner.Beginning.{begins_otherwise};
 
+use crate::beginning::Beginning;
 use crate::budget::{Budget, SetAside};
 use crate::desk::{Course, Desk};
 use crate::door::tick;
@@ -9,7 +11,7 @@ use crate::tally::Tally;
 use crate::waiting::{Waited, Waiting, too_long};
 use std::alloc::{AllocError, Global};
 use std::io;
-use std::io::{Read, Write};
+use std::io::{ErrorKind, Read, Write};
 use std::net::OpenStream;
 use std::rt::Clock;
 use std::sync::atomic::Ordering;
@@ -32,13 +34,15 @@ pub(crate) fn end_reads_and_writes_in_ticks<S: OpenStream>(stream: &S) -> io::Re
 
 /// What a client sends. A read fails once the client has kept the server waiting for too long for a line: from the read
 /// in which its first byte is awaited to that which brings its line feed. The client's lines are at an end as soon as
-/// its round takes no more of them; and once its round waits for no more, as soon as those that have come are taken.
+/// its round takes no more of them; and once its round waits for no more, as soon as those that have come are taken. A
+/// read also fails if what has come begins as another protocol does, before any line of it is handed out.
 pub(crate) struct ClientReader<'a, D, C> {
     device: D,
     clock: &'a C,
     budget: &'a Budget,
     seat: Seat<'a>,
     waiting: Waiting,
+    beginning: Beginning,
     /// What was read and not yet handed out, behind what was.
     read: Vec<u8>,
     handed_out: usize,
@@ -55,6 +59,7 @@ impl<D: Drop, C> Drop for ClientReader<'_, D, C> {
             budget,
             seat: _,
             waiting: _,
+            beginning: _,
             read,
             handed_out: _,
             set_aside,
@@ -84,16 +89,20 @@ impl<'a, D: Read + Drop, C: Clock> ClientReader<'a, D, C> {
             budget,
             seat,
             waiting: Waiting::new(patience),
+            beginning: Beginning::new(),
             read,
             handed_out: 0,
             set_aside: 0,
         })
     }
 
-    /// Waits for bytes. None come once the client's lines, or those that its round takes, are at an end.
+    /// Waits for bytes. None come once the client's lines, or those that its round takes, are at an end. Fails if all
+    /// that has come begins as another protocol does.
     fn wait(&mut self, buf: &mut [u8]) -> io::Result<usize>
         ensures within { IfOk result (λ n. n ≤ length buf.new) }
         ensures len { length buf.new ≡ length buf.old }
+        ensures begun { IfOk result (λ n. 0 < n → self.new.beginning ≡ take 8 (self.old.beginning ++ take n buf.new)) }
+        ensures own { IfOk result (λ n. 0 < n → begins_otherwise (self.old.beginning ++ take n buf.new) ≡ false) }
     {
         let most = buf.len().min(CHUNK);
         for _ in 0..u64::MAX {
@@ -112,6 +121,9 @@ impl<'a, D: Read + Drop, C: Clock> ClientReader<'a, D, C> {
                 }
                 continue;
             };
+            if self.beginning.note(&buf[..count]) {
+                return Err(io::Error::from(ErrorKind::InvalidData));
+            }
             if buf[..count].contains(&b'\n') {
                 self.waiting.end();
             }

@@ -2,6 +2,7 @@
 #![tactic(auto)]
 
 mod attending;
+mod beginning;
 mod budget;
 mod client;
 mod desk;

@@ -207,6 +207,69 @@ fn a_line_has_its_time(rt: HostRuntime) -> Result<(), AllocError> {
     Ok(())
 }
 
+/// Connections that begin as another protocol does, and the bytes of each read before one fails: none if that comes at
+/// once, and otherwise only what may yet become another line.
+const OTHERS: &[(&[Step], &[usize])] = &[
+    (&[Step::Moves(0, b"POST / HTTP/1.1\n")], &[]),
+    (&[Step::Moves(0, b"GET /\n{}\n")], &[]),
+    (
+        &[
+            Step::Moves(0, b"OPT"),
+            Step::Moves(0, b"IONS"),
+            Step::Moves(0, b" *\n{}\n"),
+        ],
+        &[3, 4],
+    ),
+    (&[Step::Moves(0, b"\x16\x03\x01\n{}\n")], &[]),
+    (
+        &[Step::Moves(0, b"\x16"), Step::Moves(0, b"\x03\n{}\n")],
+        &[1],
+    ),
+    (&[Step::Moves(0, b"\x00\x01\n{}\n")], &[]),
+    (
+        &[Step::Moves(0, b"\x00"), Step::Moves(0, b"\x03\n{}\n")],
+        &[1],
+    ),
+];
+
+/// Connections that do not, and the bytes of each read: only the first bytes tell.
+const OWN: &[(&[Step], &[usize])] = &[
+    (&[Step::Moves(0, b"{}\nPOST / HTTP/1\n")], &[16]),
+    (
+        &[
+            Step::Moves(0, b"{}\n"),
+            Step::Moves(0, b"{}\n{}\n"),
+            Step::Moves(0, b"GET /\n"),
+        ],
+        &[3, 6, 6],
+    ),
+    (
+        &[Step::Moves(0, b"POST"), Step::Moves(0, b"\n{}\n")],
+        &[4, 4],
+    ),
+    (&[Step::Moves(0, b"get /\n")], &[6]),
+    (&[Step::Moves(0, b" GET /\n")], &[7]),
+    (&[Step::Moves(0, b"\nGET /\n")], &[7]),
+    (&[Step::Moves(0, b"\x16\n\x03\n")], &[4]),
+];
+
+/// A connection that begins as another protocol does fails before any line of it is handed out, in however many pieces
+/// it comes.
+#[test]
+fn other_protocols_have_no_lines(rt: HostRuntime) -> Result<(), AllocError> {
+    for (steps, counts) in OTHERS {
+        let budget = Budget::new(None, 1);
+        let (found, failed) = reads(rt.alloc(), *steps, None, &budget)?;
+        assert!(rt; found.as_slice() == *counts && failed);
+    }
+    for (steps, counts) in OWN {
+        let budget = Budget::new(None, 1);
+        let (found, failed) = reads(rt.alloc(), *steps, None, &budget)?;
+        assert!(rt; found.as_slice() == *counts && !failed);
+    }
+    Ok(())
+}
+
 const LATE: &[Step] = &[
     Step::Interrupted(1_000_000),
     Step::Ticks(40),
