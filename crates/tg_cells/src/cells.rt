@@ -55,7 +55,7 @@ fn cell_or_none(cells: &Pool, number: u32) -> Option<u32>
 }
 
 /// The first free one of the cells used so far, once this free cell is used: the next one in their list. If the cell
-/// was never used, there is none, which is said by `size`.
+/// was never used, there is none, which is written as `size`.
 fn free_after(cells: &Pool, number: u32, size: u32) -> u32
     ensures { result ≡ cond (ltb number (length cells.now.items)) (cell_at cells.now.items number).next size }
 {

@@ -1,5 +1,5 @@
 //! The heap with its roots and the collector's progress. The steps of the table are private methods, of which `collect`
-//! makes one and `cycle` all up to the end of a cycle, in loops of like ones.
+//! makes one, and `cycle` all up to the end of a cycle, in loops over steps of one kind.
 ghost use Rattle.std.specs.Prelude.{◌≡◌, ◌<◌, ◌≤◌, [], ◌∷◌, length, MatchOption, IfNone, IfSome, ◌+◌, get_or, false, true, cond, None, Some};
 ghost use Rattle.std.specs.Bool.{OnFalse, OnTrue};
 ghost use Rattle.tg_rights.specs.declared.limits.TheConstants.{MAX_SLOTS};
@@ -214,7 +214,7 @@ impl Machine {
         }
     }
 
-    /// Stores how far a step led that ended no cycle, and says what it did.
+    /// Stores how far a step that ended no cycle has led, and says what it did.
     #[inline(always)]
     fn come_to(&mut self, progress: Progress, freed: u64) -> Note
         ensures machine { self.new ≡ so_far self.old progress }

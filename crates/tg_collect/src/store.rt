@@ -50,10 +50,10 @@ impl Model for Store {
 }
 
 impl Store {
-    /// The store of a graph of at most 64 subjects, with consecutive serials from 1 on, which fit with their edges: its
-    /// principals. They are in the first slots, white, in the order of their serials; their edges are added by rising
-    /// pairs of their ends. All memory is allocated here; the only error is that an allocation failed. Edges are found
-    /// under the key that everybody can read.
+    /// The store of a graph of at most 64 subjects, its principals, with consecutive serials from 1 on; they and their
+    /// edges have to fit. They are in the first slots, white, in the order of their serials; their edges are added by
+    /// rising pairs of their ends. All memory is allocated here; the only error is that an allocation failed. Edges are
+    /// found under the key that everybody can read.
     pub fn new(alloc: Global, graph: &Graph, slots: u32, cells: u32) -> Result<Store, AllocError>
         requires low_slots { 1 ≤ slots }
         requires high_slots { slots ≤ MAX_SLOTS }
@@ -123,7 +123,8 @@ impl Store {
         self.machine.heap.text(id).unwrap()
     }
 
-    /// The slot of the vertex with this serial and the rights over it; none if the slot's vertex has no right over it.
+    /// The slot of the vertex with this serial, and the rights that the vertex in slot `id` has over it; none if it has
+    /// none.
     pub fn edge(&self, id: u32, serial: u64) -> Option<(u32, Rights)>
         requires { IsSome (place self.now id) }
         ensures { MatchOption result

@@ -132,7 +132,7 @@ impl Graph {
     }
 
     /// The label from one vertex to another: the rights that `from` has over `to`. It is empty if there is no edge, or
-    /// if one of the serials is no vertex's.
+    /// if no vertex has one of the serials.
     pub fn rights(&self, from: u64, to: u64) -> Rights
         ensures { result ≡ label self.now from to }
     {
@@ -203,10 +203,11 @@ impl Graph {
     }
 
     /// Carries out the actor's command if the rules allow it and, for a create or an enrol, a serial is left; otherwise
-    /// the graph stays as it is, and the reply says why: `Denied` by the rule, with the first cause, or `Full` for
+    /// the graph is unchanged, and the reply says why: `Denied` by the rule, with the first cause, or `Full` for
     /// serials, the only thing that a plain graph can run out of. `AllocError` only for a command that would otherwise
     /// be carried out and needs memory for what is returned or stored, so never for a denial, nor if no serial is left,
-    /// nor for a remove, a write, an assume or a leave; the graph then stays too. The command is used up in each case.
+    /// nor for a remove, a write, an assume or a leave; the graph is then unchanged too. The command is used up in each
+    /// case.
     ///
     /// In graphs that agree for the actor the reply is the same, a new vertex's serial and fullness aside, and graphs
     /// with the same next serial that agree for some subjects, the actor among them, agree for them afterwards.
@@ -405,7 +406,7 @@ impl Graph {
     }
 
     /// Whether a path leads from one vertex to another, along edges of any label that is not empty. A vertex reaches
-    /// itself; a serial that is no vertex's reaches nothing. `AllocError` if there is no memory for the search.
+    /// itself; a serial that no vertex has reaches nothing. `AllocError` if there is no memory for the search.
     pub fn reaches(&self, from: u64, to: u64) -> Result<bool, AllocError>
         ensures { IfOk result (λ reached. IsTrue reached ↔ Reaches self.now from to) }
     {

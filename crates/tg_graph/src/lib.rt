@@ -73,7 +73,7 @@ pub fn denials_are_the_same()
     ensures { DenialsAreTheSame }
 {}
 
-/// An allowed command leaves a graph, and each subject a subject.
+/// After an allowed command the graph is still a graph, and each subject still a subject.
 pub fn commands_keep_graphs()
     ensures { CommandsKeepGraphs }
 {}
@@ -83,7 +83,7 @@ pub fn rights_are_over_others()
     ensures { RightsAreOverOthers }
 {}
 
-/// A configuration is refused for what is wrong in it, or for want of memory.
+/// A configuration is refused for what is wrong in it, or for lack of memory.
 pub fn refusals_are_faults()
     ensures { RefusalsAreFaults }
 {}
@@ -93,20 +93,20 @@ pub fn principals_come_and_go()
     ensures { PrincipalsComeAndGo }
 {}
 
-/// An assume is allowed exactly to who has not retired and has take and grant over another vertex, a subject; a leave
-/// is always allowed, and is the only command that a retired actor may ask. Neither changes the graph.
+/// An assume is allowed exactly to an actor that has not retired and has take and grant over another vertex, a subject;
+/// a leave is always allowed, and is the only command that a retired actor may ask. Neither changes the graph.
 pub fn agents_are_assumed_and_left()
     ensures { AgentsAreAssumedAndLeft }
 {}
 
-/// When each of the other commands is allowed, said for each by itself: a take to who has take over whoever has the
-/// rights, a grant to who has the rights, and grant over whom it grants them to, and so on.
+/// When each of the other commands is allowed, for each by itself: a take to an actor that has take over a vertex with
+/// the rights, a grant to one that has the rights, and grant over the vertex that is to get them, and so on.
 pub fn each_is_allowed_so()
     ensures { EachIsAllowedSo }
 {}
 
 /// What each command that changes rights does, and what it replies, right by right: who has them over whom afterwards.
-/// A denial for missing rights names such as are missing.
+/// A denial for missing rights names rights that are missing.
 pub fn each_does_so()
     ensures { EachDoesSo }
 {}
@@ -157,7 +157,7 @@ pub fn openings_fit()
     ensures { OpeningsFit }
 {}
 
-/// A configuration opens the graph that its lists say.
+/// A configuration opens the graph that its lists describe.
 pub fn openings_are_as_listed()
     ensures { OpeningsAreAsListed }
 {}
@@ -172,7 +172,7 @@ pub fn edges_are_counted()
     ensures { EdgesAreCounted }
 {}
 
-/// Lists have what one graph has, and no other has exactly that.
+/// Lists have what exactly one graph has.
 pub fn parts_are_one_graph()
     ensures { PartsAreOneGraph }
 {}

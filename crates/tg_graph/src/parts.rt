@@ -46,7 +46,8 @@ impl Graph {
         self.vertices.len() as u64
     }
 
-    /// Whether all who have retired are vertices: in a graph from whose opening on nothing was dropped they are.
+    /// Whether all who have retired are vertices, as they are in a graph from which nothing has been dropped since it
+    /// was opened.
     pub fn has_all_retired(&self) -> bool
         ensures { IsTrue result ↔ ((v : ℕ) → has_retired self.now v ≡ true → IsVertex self.now v) }
     {
@@ -58,7 +59,7 @@ impl Graph {
         true
     }
 
-    /// The graph that has exactly what these lists have. Vertices and those who have retired are listed by rising
+    /// The graph that has exactly what is in these lists. Vertices and those who have retired are listed by rising
     /// serial and edges by rising pairs of ends; the ends of an edge are two different vertices, and its label is not
     /// empty; there are at most 64 principals, subjects of different names and serials, and none of them has retired;
     /// who has retired is a vertex; and the next serial is above all. `AllocError` if there is no memory for the graph.

@@ -13,10 +13,10 @@ use std::alloc::{AllocError, Global};
 use tg_rights::{Command, Kind, Name, Outcome, Reply, Rights, Text, Which};
 
 impl Graph {
-    /// Carries out the actor's command as `apply` does, and says whether this is the reply to it: for whoever knows
-    /// what the reply was, and wants to know if it was right. Nothing is copied but a text that is written and a name
-    /// that is enrolled. `AllocError` only for a command that would otherwise be carried out and needs memory for what
-    /// is stored, so never for a denial, a read, a look, a remove, an assume or a leave; the graph then stays.
+    /// Carries out the actor's command as `apply` does, and says whether this is the reply to it, so that a caller who
+    /// was given the reply can check it. Nothing is copied but a text that is written and a name that is enrolled.
+    /// `AllocError` only for a command that would otherwise be carried out and needs memory for what is stored, so
+    /// never for a denial, a read, a look, a remove, an assume or a leave; the graph is then unchanged.
     pub fn repeat(
         &mut self,
         actor: u64,
@@ -36,8 +36,8 @@ impl Graph {
         answer
     }
 
-    /// Carries out the actor's command, or finds why not, and says whether this is the reply: soon if it is a read that
-    /// the rules allow, as most are.
+    /// Carries out the actor's command, or finds why not, and says whether this is the reply: quickly for a read that
+    /// the rules allow, as most commands are.
     fn answer_soon(
         &mut self,
         actor: u64,
@@ -58,7 +58,7 @@ impl Graph {
         self.answer_again(actor, command, told)
     }
 
-    /// Whether this is the reply to a read, if the rules allow it; the vertex is sought once.
+    /// Whether this is the reply to a read, if the rules allow it; the vertex is looked up once.
     fn read_again(&self, actor: u64, over: u64, told: &Reply) -> Option<bool>
         ensures allowed { IfSome result (λ _. Allowed self.now actor (Command.Read over)) }
         ensures same { IfSome result (λ same. IsTrue same ↔ reply.Text (text_of self.now over) ≡ told.now) }

@@ -28,7 +28,7 @@ impl Model for Name {
     ghost invariant = { λ a. IsTrue (is_name (string_bytes a.content)) };
 }
 
-/// A string that is no name.
+/// A string that is not a name.
 #[derive(Debug, Drop)]
 pub struct BadName {
     /// The string that was passed in.
@@ -56,7 +56,7 @@ impl Eq for Name {
     ghost laws = { nat_list_eq_equiv };
 }
 
-/// Whether the bytes are all of a to z.
+/// Whether all bytes are letters a to z.
 fn are_letters(bytes: &[u8]) -> bool
     ensures { result ≡ list_all (λ b. nat_le 97 b && nat_le b 122) bytes.now }
 {
@@ -74,7 +74,7 @@ pub fn is_name(text: &str) -> bool
 }
 
 impl Name {
-    /// The string as a name; `BadName` returns it exactly if it is none. Allocates nothing.
+    /// The string as a name; `BadName` gives it back exactly if it is not one. Allocates nothing.
     pub fn new(content: String) -> Result<Name, BadName>
         ensures known { IsOk result ↔ IsTrue (is_name (string_bytes content)) }
         ensures ok { IfOk result (λ name. name ≡ string_bytes content) }

@@ -10,7 +10,7 @@ use std::error::Error;
 use std::fmt;
 use std::str::FromStr;
 
-/// What a text is that writes no rights: it has a byte that is none of the letters, or a letter twice.
+/// The error for a text that does not spell rights: it has a byte that is none of the letters, or a letter twice.
 #[derive(Clone, Copy, PartialEq, Eq, Debug)]
 pub struct NotRights;
 

@@ -42,7 +42,7 @@ impl Model for Slots {
     ghost invariant = { IsInside };
 }
 
-/// Where a slot leads; one that was never used leads nowhere, which is said by `size`.
+/// Where a slot leads; one that was never used leads nowhere, which is written as `size`.
 fn next_of(entries: &Shelf, id: u32, size: u32) -> u32
     ensures { result ≡ get_or (links entries.now.items) id size }
 {

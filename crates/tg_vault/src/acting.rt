@@ -31,8 +31,8 @@ impl Actor {
     }
 }
 
-/// Who acts at the seat of this principal, who may have retired: the seat's agent, or else the principal. Only of an
-/// agent the set of the retired is asked, since a principal of the store has not retired.
+/// Who acts at the seat of this principal, who may have retired: the seat's agent, or else the principal. Only an agent
+/// is looked up among those who have retired, since a principal of the store has not.
 #[inline(always)]
 pub(crate) fn acting_at(store: &Store, retired: &BTreeSet<u64>, seat: u64, principal: u64) -> Actor
     requires seat { seat < SEATS }

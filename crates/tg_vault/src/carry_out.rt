@@ -36,7 +36,7 @@ pub struct State {
 
 // A reply is put where the caller has room for it: as a result it would be moved from call to call, and whole, as it
 // can be a text.
-/// Puts a reply in the place of `Done`, of which nothing has to be dropped.
+/// Puts a reply in the place of `Done`, which has nothing to drop.
 #[inline(always)]
 fn put(told: &mut Reply, new: Reply)
     requires { told.old ≡ reply.Done }
@@ -245,7 +245,7 @@ impl State {
         Ok(serial)
     }
 
-    /// The actor has retired, and is a principal no longer. Only the first of this can fail.
+    /// Notes that the actor has retired, and makes it a principal no longer. Only the first of these can fail.
     fn retire(&mut self, actor: u64) -> Result<(), AllocError>
         ensures gone { OnOk result (set_of self.new.retired.keys ≡ set.insert (set_of self.old.retired.keys) actor) }
         ensures retired { OnOk result (Retired self.old.store self.new.store actor) }
@@ -260,9 +260,9 @@ impl State {
         Ok(())
     }
 
-    /// Carries a command out that the rules allow, if nothing that it needs is used up; the vertices that they passed
-    /// were found. `AllocError` leaves everything as it was; it occurs only for a command that copies a text, a name or
-    /// a list, and for a retire. The reply takes the place of `Done`.
+    /// Carries out a command that the rules allow, if nothing that it needs is used up; the decision has found the
+    /// vertices. `AllocError` leaves everything as it was; it occurs only for a command that copies a text, a name or a
+    /// list, and for a retire. The reply takes the place of `Done`.
     #[inline(always)]
     fn carry_out(
         &mut self,
@@ -366,7 +366,7 @@ impl State {
         self.carry_out(alloc, seat, actor, command, &found, told)
     }
 
-    /// Decides the command of an actor that has retired: each but a leave is denied, which is carried out.
+    /// Decides the command of an actor that has retired: a leave is carried out, any other command denied.
     #[inline(never)]
     fn answer_gone(&mut self, seat: u64, actor: u64, command: &Command, told: &mut Reply) -> Outcome
         requires seat { seat < SEATS }
@@ -384,8 +384,8 @@ impl State {
         }
     }
 
-    /// Decides the actor's command and carries it out as `answer_at` does. An actor that has retired is denied each
-    /// command but a leave, which is carried out.
+    /// Decides the actor's command and carries it out as `answer_at` does. For an actor that has retired, a leave is
+    /// carried out, and any other command denied.
     #[inline(always)]
     pub fn answer(
         &mut self,

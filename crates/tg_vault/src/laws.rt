@@ -19,8 +19,8 @@ pub fn courses_join()
     ensures { CoursesJoin }
 {}
 
-/// A command is not entered for exactly one cause: its seat is none, nobody sits there, the seat has a pending target,
-/// or else memory is lacking.
+/// There is exactly one cause for which a command is not entered: there is no such seat, nobody sits there, the seat
+/// has a pending target, or else memory is lacking.
 pub fn faults_are_ordered()
     ensures { FaultsAreOrdered }
 {}
@@ -35,7 +35,7 @@ pub fn one_least_seat()
     ensures { OneLeastSeat }
 {}
 
-/// Who begins a legal history is a principal or was one, and so is who asks next, from another seat.
+/// The first actor in a legal history is a principal or was one, and so is the next one, if from another seat.
 pub fn actors_have_meanings()
     ensures { ActorsHaveMeanings }
 {}
@@ -93,7 +93,7 @@ pub fn headline_has_meaning()
     each_does_so();
 }
 
-/// What is read is the text that it has in each graph which agrees with the vault's for the reader.
+/// The text that is read is the document's in each graph that agrees with the vault's for the reader.
 pub fn reads_tell_no_more()
     ensures { ReadsTellNoMore }
 {}

@@ -28,7 +28,7 @@ use tg_rights::{Kind, Name, Text};
 /// What a rebase leaves.
 #[derive(Drop)]
 pub enum Rebased {
-    /// The opening graph is what was live, and of the history, which had so many entries, nothing is left.
+    /// The opening graph is what was live; the history, which had this many entries, has been dropped.
     Fresh { vault: Vault, dropped: u64 },
     /// This is the least seat that is in use; the vault is as before.
     Seated { vault: Vault, seat: u64 },
@@ -57,15 +57,15 @@ impl Past {
 }
 
 impl Vault {
-    /// `Seated` if somebody sits on a seat, whatever memory there is, and nothing changes. Otherwise makes three
-    /// cycles, makes what is live the opening graph, and drops the history. Names, the next serial and the numbers of
-    /// slots and cells stay, and so does the store, which then holds what is live and nothing else; of those who have
-    /// retired the vault keeps the ones that are held. `NoMemory` if an allocation failed, after the cycles, with the
-    /// whole history.
+    /// Returns `Seated`, and changes nothing, if somebody has a seat, even where memory is lacking. Otherwise makes
+    /// three cycles, makes what is live the opening graph, and drops the history. Names, the next serial and the
+    /// numbers of slots and cells stay, and so does the store, which then holds what is live and nothing else; of those
+    /// who have retired the vault keeps the ones that are held. `NoMemory` if an allocation failed, after the cycles,
+    /// with the whole history.
     ///
     /// The new opening graph is the graph of the history restricted to its live vertices, agrees with it for each
     /// principal, and each history that is legal from the new graph is legal from the old one's, with the same replies,
-    /// and leads to a restriction again: so nobody can tell, however many rebases follow one another.
+    /// and leads to a restriction again: so nobody can tell that there was a rebase, or several.
     pub fn rebase(self) -> Rebased
         ensures { Rebases self result }
     {
@@ -74,9 +74,9 @@ impl Vault {
         rebased
     }
 
-    /// As `rebase`, with what it drops: the whole history and the opening graph if the vault is fresh, and otherwise
-    /// nothing. They are moved, not copied, so that the history can be kept, and both be dropped later, without making
-    /// the rebase longer.
+    /// As `rebase`, and returns what that drops: the whole history and the opening graph if the vault is fresh,
+    /// otherwise nothing. They are moved, not copied, so that the history can be kept, and both can be dropped later,
+    /// without lengthening the rebase.
     pub fn rebase_with_past(self) -> (Rebased, Past)
         ensures rebased { Rebases self result.0 }
         ensures past { HandsOver self result.0 result.1 }
@@ -88,7 +88,7 @@ impl Vault {
         }
     }
 
-    /// As `rebase_with_past`, of a vault with the graph of its history, as a replay leaves it: what is live of that
+    /// As `rebase_with_past`, given the graph of the vault's history, as a replay leaves it: what is live of that
     /// becomes the opening graph, and none has to be made. Allocates nothing if all of it is live, and otherwise once,
     /// for the serials of what is.
     pub fn rebase_with_graph(self, graph: Graph) -> (Rebased, Past)
@@ -230,8 +230,8 @@ impl Vault {
         Ok(graph)
     }
 
-    /// Puts the graph of what is held in the place of the opening graph, and this history without entries in the place
-    /// of the other; returns both. Allocates nothing.
+    /// Replaces the opening graph by that of what is held, and the history by this one without entries; returns the old
+    /// ones. Allocates nothing.
     fn reopen(&mut self, opening: Graph, none: Vec<Entry>) -> Past
         requires none { none.items ≡ [] }
         requires nobody { NobodySits self.old.seats }

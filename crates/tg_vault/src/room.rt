@@ -13,7 +13,7 @@ pub struct Room {
 }
 
 impl Vault {
-    /// How much room the vault has left. What nobody can reach takes room until the collector frees it. Allocates
+    /// How much room the vault has left. What nobody can reach takes up room until the collector frees it. Allocates
     /// nothing.
     pub fn room(&self) -> Room
         ensures { IsRoom self.now result }

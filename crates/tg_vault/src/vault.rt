@@ -33,7 +33,7 @@ use tg_rights::{Command, Reply, SEATS};
 /// The whole state of the server: the opening graph, the active principals by their names, who has retired, the seats,
 /// the store with its collector and the pending target and agent of each seat, and the history of commands. `hello`,
 /// `bye`, `command`, `shade`, `collect` and `run_one` are one atomic step each; `cycle`, `run` and `rebase` can make
-/// many. Contracts see its `Contents`. Only they have the graph of the history; what is stored is the part of the graph
+/// many. Contracts see its `Contents`. The graph of the history is in these alone; what is stored is the part of it
 /// still in use.
 ///
 /// The history is kept whole until a rebase, and is legal: each entry's outcome is one that the take-grant rules
@@ -74,9 +74,9 @@ pub struct Ran {
 
 impl Vault {
     /// A vault over the graph that the configuration opens: no entries, no seat in use, the graph's principals, and the
-    /// graph in the store. Otherwise the first fault of the configuration, as `Graph::build` returns it;
-    /// `OutOfMemory` only if there is no other. Edges are found under the key that everybody can read, so use this only
-    /// if it does no harm that whoever sends commands can slow the vault down; otherwise, see `with_key`.
+    /// graph in the store. Otherwise the first fault of the configuration, as `Graph::build` returns it; `OutOfMemory`
+    /// only if there is no other. Edges are found under the key that everybody can read, so use this only if it does no
+    /// harm that those who send commands can slow the vault down; otherwise use `with_key`.
     pub fn new(alloc: Global, config: Config) -> Result<Vault, OpenFault>
         ensures ok { IfOk result (λ vault. IsFresh config vault) }
         ensures key { IfOk result (λ vault. vault.store.key ≡ FIXED) }
@@ -86,7 +86,7 @@ impl Vault {
         Vault::with_key(alloc, Key::FIXED, config)
     }
 
-    /// The same under a key of the caller's, which the vault keeps, also in a rebase, and which changes no answer. A
+    /// The same under a key of the caller's, which the vault keeps, even after a rebase, and which changes no answer. A
     /// key that nobody can guess is meant to keep anybody from choosing edges that are slow to find. Errors are those
     /// of `new`, in the same order: the first fault of the configuration, and `OutOfMemory` only if there is no other.
     pub fn with_key(alloc: Global, key: Key, config: Config) -> Result<Vault, OpenFault>
@@ -267,7 +267,8 @@ impl Vault {
     ///
     /// Faults, in this order, after which everything is as before, nothing is entered and the command is dropped:
     /// `NoSeat` for a seat above 63, `NoActor` for an empty one, `Busy` while the seat has a pending target,
-    /// `OutOfMemory` if an allocation failed, as for the copy of an enrol's name, whatever the outcome would have been.
+    /// `OutOfMemory` if an allocation failed, such as that of a copy of an enrol's name, whatever the outcome would
+    /// have been.
     ///
     /// The outcome and the reply are those of every graph that the actor cannot tell from the graph of the history, a
     /// new vertex's serial and fullness aside.
@@ -287,8 +288,8 @@ impl Vault {
         }
     }
 
-    /// The same for a command that is taken from its place once it is entered, with the reply in the place of `Done`:
-    /// so neither is moved before.
+    /// The same for a command that is taken from its place only once it is entered; the reply replaces `Done`. So
+    /// neither is moved before.
     #[inline(never)]
     #[tactic(auto, using(crate::proofs::CollectLemmas::still_acts))]
     fn ask(&mut self, seat: u64, command: &mut Command, told: &mut Reply) -> Result<u64, AskFault>
@@ -394,8 +395,8 @@ impl Vault {
         answer
     }
 
-    /// As `run_one`, with the answer put in the place of another one, and the event left where it is, so that neither
-    /// is moved. The event is used up: a command that is entered is taken out of it.
+    /// As `run_one`, but the answer replaces another one, and the event stays where it is, so that neither is moved.
+    /// The event is used up: a command that is entered is taken out of it.
     #[inline(always)]
     pub fn run_one_into(&mut self, event: &mut Event, answer: &mut Answer)
         ensures step { VaultStep self.old event.old answer.new self.new }
@@ -451,9 +452,9 @@ impl Vault {
         swept
     }
 
-    /// Carries out the events in order, each as one atomic step, and answers each. Room for all answers is taken first:
-    /// if that fails, no event is carried out and there is no answer. If a command cannot be copied, the answer is
-    /// `Ask(OutOfMemory)`, unless the seat has a fault.
+    /// Carries out the events in order, each as one atomic step, and answers each. Memory for all answers is allocated
+    /// first: if that fails, no event is carried out and there is no answer. If a command cannot be copied, the answer
+    /// is `Ask(OutOfMemory)`, unless the seat has a fault.
     ///
     /// The answers are a run of the world that the history gives, and the entries added are those of the `Asked`
     /// answers. Each command is carried out exactly when the take-grant rules (Lipton and Snyder 1977; Bishop) allow it
