@@ -17,7 +17,8 @@ enum Stop {
     NoSerial,
 }
 
-/// Carries the step out, or says why it cannot be, checking its actor first, then the rules, then for a serial.
+/// Carries out the step, or says why that cannot be done: its actor is checked first, then the rules, then whether a
+/// serial is left.
 fn carry_out(alloc: Global, graph: &mut Graph, step: &Step) -> Result<Option<Stop>, AllocError>
     ensures { IfOk result (λ stop. MatchOption stop (CarriesOut graph.old step.now graph.new) (StopsBy graph.old step.now)) }
 {
@@ -61,9 +62,9 @@ fn weigh(graph: &Graph, goal: Goal) -> Verdict
 }
 
 /// Carries out the steps one after another, starting from the graph, and returns the verdict: the first step, counted
-/// from 0, that cannot be carried out, with the first of these that holds: its actor is no subject of the graph as it
-/// then is; the rules (Lipton and Snyder 1977; Bishop) deny it, for the first cause; it makes a vertex and no serial is
-/// left. After all steps, the rights of the goal that the label lacks, or `Shared`, so that the goal's rights can be
+/// from 0, that cannot be carried out, with the first of these that holds: its actor is not a subject of the graph at
+/// that point; the rules (Lipton and Snyder 1977; Bishop) deny it, for the first cause; it makes a vertex and no serial
+/// is left. After all steps, the rights of the goal that the label lacks, or `Shared`, so that the goal's rights can be
 /// shared, by these steps. Enrols, retires, assumes and leaves are steps like others, though they give nobody rights
 /// that creates do not. `AllocError` only if there was no memory for a step.
 pub fn check(

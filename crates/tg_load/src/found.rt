@@ -11,7 +11,7 @@ pub enum Verdict {
     Differs { seat: u64, index: u64 },
     /// There was no memory to settle them.
     NoMemory,
-    /// There was no room for the list of logs, so the vault stays open.
+    /// There was no memory for the list of logs, so the vault stays open.
     NoRoom,
 }
 

@@ -19,7 +19,7 @@ pub enum Closed<L: Ledger> {
         settled: Settled,
         counted: bool,
     },
-    /// There was no room for the list of logs; the call may be made again.
+    /// There was no memory for the list of logs; the call may be made again.
     NoRoom {
         shared: Shared<L>,
         ended: Vec<Ended<L>>,
@@ -37,7 +37,7 @@ impl<L: Ledger> Shared<L> {
         closed
     }
 
-    /// As `close`, with the logs if they agree, which it drops: so they can be dropped later.
+    /// As `close`, and returns the logs if they agree, which `close` drops: so they can be dropped later.
     pub fn close_with_logs(self, ended: Vec<Ended<L>>) -> (Closed<L>, Vec<SeatLog>)
         requires { L.parts ≡ PARTS }
         ensures closed { IsClosed ended.items result.0 }
@@ -48,8 +48,8 @@ impl<L: Ledger> Shared<L> {
         (closed, logs)
     }
 
-    /// As `close_with_logs`, with the graph that the history leaves if they agree, which it drops: so a rebase can go
-    /// on from it.
+    /// As `close_with_logs`, and returns the graph that the history leaves if they agree: so a rebase can go on from
+    /// it.
     pub fn close_with_graph(self, ended: Vec<Ended<L>>) -> (Closed<L>, Vec<SeatLog>, Option<Graph>)
         requires { L.parts ≡ PARTS }
         ensures closed { IsClosed ended.items result.0 }

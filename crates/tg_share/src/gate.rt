@@ -17,7 +17,7 @@ pub trait Gate {
     /// Called between two holds of the lock, at this place. It may wait.
     fn pause<R: Wait + Clock>(&self, rt: &R, place: Place);
 
-    /// Called after the pause of a command that was entered, whose target is not yet shaded, with the reply to it. Does
+    /// Called with the reply to a command that was entered, after its pause, when its target is not yet shaded. Does
     /// nothing unless a gate says otherwise.
     fn after_entry<R: Wait + Clock>(&self, _rt: &R, _command: &Command, _reply: &Reply) {}
 }

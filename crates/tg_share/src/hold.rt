@@ -1,6 +1,6 @@
 //! The lock, and holds of it. A hold is used up by its one event, and cannot be dropped without it: so nothing but
-//! events happens under the lock, and each hold makes one, or none if no part is left for a session, or if it only
-//! looks how much room is left.
+//! events happens under the lock, and each hold makes one; or none, if no part is left for a session, or if it only
+//! reads how much room is left.
 ghost use Rattle.std.specs.Prelude.{◌≡◌, ◌⊎◌, ◌+◌, ◌<◌, Err, IfOk, IfErr, OnOk, OnErr, MatchResult};
 ghost use Rattle.tg_rights.specs.declared.limits.TheConstants.{SEATS};
 ghost use Rattle.tg_vault.specs.declared.event.AskFault.TheVariants as ask_fault;
@@ -54,7 +54,7 @@ impl<L: Ledger> Lock<L> {
     }
 
     /// Takes the lock. It is tried for a while before the thread sleeps, since no hold lasts long, and a thread that
-    /// sleeps makes those who come after it sleep as well.
+    /// sleeps makes the next ones sleep as well.
     pub fn hold<R: Wait>(&self, rt: &R) -> Hold<'_, L> {
         for _ in 0..TRIES {
             if let Some(guard) = self.mutex.try_lock() {

@@ -29,7 +29,7 @@ pub fn shares_have_meanings()
     ensures { SharesHaveMeanings }
 {}
 
-/// No more slots and cells are told to be free than there are.
+/// No more slots and cells are reported as free than there are.
 pub fn rooms_are_within()
     ensures { RoomsAreWithin }
 {

@@ -1,4 +1,4 @@
-//! How a load goes from actor to actor, over the bridges that the marks tell of.
+//! How a load goes from actor to actor, over the bridges that the marks show.
 ghost use Rattle.std.specs.Prelude.{◌≡◌, ◌<◌, true, false, IfOk, OnOk, MatchOption};
 ghost use Rattle.tg_rights.specs.Promise.Letters.{is_none, take, grant};
 ghost use Rattle.tg_graph.specs.Promise.Rules.{last_serial};

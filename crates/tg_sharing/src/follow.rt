@@ -37,7 +37,7 @@ pub(crate) fn is_followed(label: Rights, x: Marked, y: Marked, is_own: bool) -> 
 }
 
 impl Marks {
-    /// A terminal span goes on along a take.
+    /// Spans the end of a take whose start is spanned: a terminal span goes on.
     fn taken(&mut self, graph: &Graph, x: u64, y: u64) -> Result<(), AllocError>
         requires edge { HasOver graph.now x take y }
         requires marks { AreMarks graph.now self.old }
@@ -50,7 +50,7 @@ impl Marks {
         Ok(())
     }
 
-    /// And backwards.
+    /// Bridges the start of a take whose end is bridged.
     fn reaching(&mut self, graph: &Graph, x: u64, y: u64) -> Result<(), AllocError>
         requires edge { HasOver graph.now x take y }
         requires marks { AreMarks graph.now self.old }
@@ -63,7 +63,7 @@ impl Marks {
         Ok(())
     }
 
-    /// A bridge goes on along a grant from the end of a terminal span.
+    /// Bridges the end of a grant whose start is spanned.
     fn granting(&mut self, graph: &Graph, x: u64, y: u64) -> Result<(), AllocError>
         requires edge { HasOver graph.now x grant y }
         requires marks { AreMarks graph.now self.old }
@@ -76,7 +76,7 @@ impl Marks {
         Ok(())
     }
 
-    /// Or to it.
+    /// Bridges the start of a grant whose end is spanned.
     fn granted(&mut self, graph: &Graph, x: u64, y: u64) -> Result<(), AllocError>
         requires edge { HasOver graph.now x grant y }
         requires marks { AreMarks graph.now self.old }
@@ -89,7 +89,7 @@ impl Marks {
         Ok(())
     }
 
-    /// An initial span ends with a grant to the goal's own vertex.
+    /// Bridges the start of a grant to the goal's own vertex: an initial span ends with it.
     fn initial(&mut self, graph: &Graph, x: u64, y: u64) -> Result<(), AllocError>
         requires edge { HasOver graph.now x grant y }
         ensures goes { OnOk result (Goes graph.now self.old self.new) }
@@ -228,7 +228,7 @@ impl Marks {
         Ok(())
     }
 
-    /// The same; whether that set any.
+    /// Sets the marks to which each edge leads; returns whether that set any.
     fn grow(&mut self, graph: &Graph) -> Result<bool, AllocError>
         requires { AreMarks graph.now self.old }
         ensures goes { OnOk result (Goes graph.now self.old self.new) }

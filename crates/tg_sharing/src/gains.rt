@@ -7,7 +7,8 @@ use std::collections::VecDeque;
 use tg_graph::{Goal, Graph};
 use tg_rights::Rights;
 
-/// So many spanned vertices take part at most, those that were marked first: a search takes time with the cube of them.
+/// How many spanned vertices take part at most, those that were marked first: the time of a search grows with the cube
+/// of their number.
 const MOST: usize = 128;
 
 /// The places of the goal's two vertices.
@@ -86,7 +87,7 @@ fn asked_by(way: Way) -> Rights {
     }
 }
 
-/// A list of so many empty sets.
+/// A list of this many empty sets.
 fn row_of(alloc: Global, count: usize) -> Result<Vec<Rights>, AllocError> {
     let mut row = Vec::new(alloc);
     for _ in 0..count {
@@ -262,7 +263,7 @@ impl Search {
         Ok(())
     }
 
-    /// Goes on until the goal is met, or nothing is left to go on from. Whether it is met.
+    /// Goes on until the goal is met, or nothing is left to go on from; returns whether it is met.
     fn run(&mut self, goal: &Goal) -> Result<bool, AllocError> {
         for _ in 0..u64::MAX {
             if self.labels.at(FROM, TO).contains(goal.rights) {
@@ -287,8 +288,8 @@ impl Search {
         }
     }
 
-    /// The steps on which the goal's rights rest, in the order in which they were found, each of those rights alone
-    /// that are needed.
+    /// The steps that the goal's rights need, in the order in which they were found, each with only the rights that are
+    /// needed.
     fn needed(&self, alloc: Global, goal: &Goal) -> Result<Vec<Passing>, AllocError> {
         let mut needed = Table::new(alloc, self.serials.len())?;
         needed.add(FROM, TO, goal.rights);

@@ -8,8 +8,8 @@
 //! itself, have them.
 //!
 //! `marks` sets these marks, each for a reason; `search` finds quickly in which order, and `follow` shows that there
-//! are no more; `builder`, `carry` and `fetch` derive steps from the reasons, `gains` and `plain` look for some that
-//! make no vertices, and `sharing` answers, `prospect` and `lookup` of many vertices at once.
+//! are no more; `builder`, `carry` and `fetch` derive steps from the reasons, `gains` and `plain` look for steps that
+//! make no vertices, `sharing` answers, and `prospect` and `lookup` do so for many vertices at once.
 #![tactic(auto)]
 
 ghost use Rattle.tg_sharing.specs.Promise.Laws.{SharingHasMeaning, WithheldForEver};
@@ -41,7 +41,7 @@ pub fn withheld_for_ever()
     commands_keep_graphs();
 }
 
-/// What steps, and lists that are empty or not, say of what can be shared.
+/// What steps, and lists with and without vertices, say about what can be shared.
 pub fn sharing_has_meaning()
     ensures { SharingHasMeaning }
 {}

@@ -14,20 +14,20 @@ use std::collections::BTreeSet;
 use tg_graph::{Graph, commands_keep_graphs};
 use tg_rights::Rights;
 
-/// All vertices of which it is asked whether rights can ever be shared, or why they are not listed.
+/// All vertices that a lookup asks for, or why they are not listed.
 #[derive(Debug, Drop)]
 pub enum Listing {
-    /// All for which they can, by rising serial, each with those of the rights that are there now.
+    /// All for which the rights can ever be shared, by rising serial, each with those of the rights that are there now.
     All(Vec<(u64, Rights)>),
-    /// It takes more than it may.
+    /// It takes more than the bound allows.
     TooMuch,
     /// Not known, since serials run out.
     Unknown,
 }
 
-/// All vertices that could ever come to have the rights, of which there has to be one, over `to`, whatever the subjects
-/// do: no other one can. `TooMuch` exactly if more than `most` vertices are an end of an edge; each of those takes as
-/// long as `can_share`. `Unknown` only where serials run out. `AllocError` if there is no memory for the answer.
+/// All vertices that could ever come to have the rights, at least one, over `to`, whatever the subjects do; no other
+/// vertex can. `TooMuch` exactly if more than `most` vertices are an end of an edge; each of those takes as long as
+/// `can_share`. `Unknown` only where serials run out. `AllocError` if there is no memory for the answer.
 pub fn every_holder(
     alloc: Global,
     graph: &Graph,
@@ -53,9 +53,9 @@ pub fn every_holder(
     Ok(Listing::All(holders(alloc, graph, rights, to, &found)?))
 }
 
-/// All vertices over which `from` could ever come to have the rights, of which there has to be one, whatever the
-/// subjects do: over no other one can it. `TooMuch` only if the derivation of all that it could have takes more steps
-/// than `most`, or more new vertices than there are serials. `AllocError` if there is no memory for the answer.
+/// All vertices over which `from` could ever come to have the rights, at least one, whatever the subjects do; there is
+/// no other such vertex. `TooMuch` only if the derivation of all that it could have takes more steps than `most`, or
+/// more new vertices than there are serials. `AllocError` if there is no memory for the answer.
 pub fn every_target(
     alloc: Global,
     graph: &Graph,
@@ -105,7 +105,7 @@ fn present(graph: &Graph, from: u64, to: u64, rights: Rights) -> Rights
     rights.minus(rights.minus(graph.rights(from, to)))
 }
 
-/// Whether it is not known of a vertex.
+/// Whether the answer for some vertex is unknown.
 fn has_unknown(found: &[(u64, Could)]) -> bool
     ensures { result ≡ list_any (λ p. is_unknown p.1) found.now }
 {

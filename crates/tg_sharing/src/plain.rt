@@ -1,5 +1,5 @@
-//! Plain derivations, which make no vertex. The steps that a search finds are carried out one after another, those that
-//! are allowed, and answer if the goal is met then.
+//! Plain derivations, which make no vertex. Of the steps that a search finds, those that are allowed are carried out
+//! one after another; they are the answer if the goal is then met.
 ghost use Rattle.std.specs.Prelude.{IfOk, IfSome, OnOk};
 ghost use Rattle.tg_sharing.specs.Promise.Answers.{AreStepsTo};
 ghost use Rattle.tg_sharing.specs.Inner.Growing.{Continues};

@@ -61,7 +61,7 @@ impl Derivation {
         Ok(true)
     }
 
-    /// The same of all edges, as long as there are no more steps than `most`.
+    /// The same for all edges, as long as there are no more steps than `most`.
     fn gather_all(
         &mut self,
         alloc: Global,
@@ -107,10 +107,10 @@ fn labels_of(
     Ok(found)
 }
 
-/// All that the vertex could ever come to have, whatever the subjects do: with steps after which it has all that at
-/// once, and no derivation gives it any right over a vertex of the graph that it lacks then. `None` if that is not
-/// known, since it takes more steps than `most`, or more new vertices than there are serials. Each edge may take as
-/// many steps as there are vertices on the way to it. `AllocError` if there is no memory for the answer.
+/// All that the vertex could ever come to have, whatever the subjects do: with steps after which it has all of that at
+/// once; no derivation gives it a right over a vertex of the graph that it then lacks. `None` if that is not known,
+/// since it takes more steps than `most`, or more new vertices than there are serials. Each edge may take as many steps
+/// as there are vertices on the way to it. `AllocError` if there is no memory for the answer.
 pub fn what_could(
     alloc: Global,
     graph: &Graph,
@@ -158,7 +158,7 @@ fn whether(alloc: Global, graph: &Graph, goal: Goal) -> Result<Could, AllocError
     }
 }
 
-/// Which of the vertices asked for could ever come to have the rights over `to`. Serials that are no vertex's are left
+/// Which of the vertices asked for could ever come to have the rights over `to`. Serials that no vertex has are left
 /// out. Each vertex takes as long as `can_share`. `AllocError` if there is no memory for the answer.
 pub fn who_could(
     alloc: Global,

@@ -25,7 +25,7 @@ pub enum Answer {
     /// By these steps.
     By(Vec<Step>),
     /// Not known: no serial is left after these steps, the first of a derivation that makes more vertices. Others may
-    /// do with fewer; in a graph of up to 128 vertices none does without (see `can_share`).
+    /// need fewer; in a graph of up to 128 vertices none does without (see `can_share`).
     Unknown(Vec<Step>),
 }
 
@@ -111,7 +111,7 @@ impl Derivation {
         Ok(Found::Here)
     }
 
-    /// The same of each of the goal's rights, one after another.
+    /// The same for each of the goal's rights, one after another.
     fn share_each(
         &mut self,
         alloc: Global,
@@ -149,7 +149,7 @@ impl Derivation {
         Ok(Found::Here)
     }
 
-    /// The same of all the goal's rights: at once, if somebody has them all.
+    /// The same for all of the goal's rights: at once, if somebody has them all.
     fn share_all(
         &mut self,
         alloc: Global,
@@ -226,7 +226,7 @@ fn plainly(
     }
 }
 
-/// As `can_share`; if only the answer counts, steps that make vertices will do where others do without.
+/// As `can_share`; if only the answer counts, steps may make vertices where others would do without.
 pub(crate) fn answered(
     alloc: Global,
     graph: &Graph,
@@ -261,9 +261,9 @@ pub(crate) fn answered(
 /// `Never`, or `By` steps that the rules allow one after another and that meet the goal. `Unknown` only where serials
 /// run out, of which there are nearly 2^64. `AllocError` if there is no memory for the answer.
 ///
-/// No step makes a vertex where some derivation does without, if at most 128 vertices are spanned, as in each graph of
-/// up to 128; tests say so, and no clause. If more are spanned, a derivation that does without is looked for among 128
-/// of them.
+/// If at most 128 vertices are spanned, as in each graph of up to 128, no step makes a vertex where some derivation
+/// does without; tests say so, no clause does. If more are spanned, a derivation without new vertices is looked for
+/// among 128 of them.
 pub fn can_share(alloc: Global, graph: &Graph, goal: Goal) -> Result<Answer, AllocError>
     requires from { IsVertex graph.now goal.from }
     requires to { IsVertex graph.now goal.to }

@@ -58,7 +58,7 @@ pub enum Said {
     Nothing,
 }
 
-/// Who answers the lines of an input, one after another.
+/// Answers the lines of an input, one after another.
 pub trait Responder {
     // what every answer keeps: of the responder at the start, and of the responder now
     ghost stays: { Self → Self → Type 0 };
@@ -108,7 +108,7 @@ struct LinesSoFar {
 
 /// Has the responder answer each line that is left in the input. Answers to lines that came together are written
 /// together, and nothing is held back when more is read, nor at the end. It ends after the responder's last answer, at
-/// the end of the input, at a line of more than 16,384 bytes, at the line after the millionth, and when the reader or
+/// the end of the input, at a line of more than 16,384 bytes, at the line after the millionth, or when the reader or
 /// the writer fails.
 pub fn answer_lines<S: Responder, D: Read, W: Write + Drop>(
     alloc: Global,
@@ -278,7 +278,7 @@ impl LinesSoFar {
         }
     }
 
-    /// Ends at a line that is not answered but by an `error` line; returns the fault, unless the writer fails.
+    /// Ends at a line that gets an `error` line as its only answer; returns the fault, unless the writer fails.
     fn refuse<W: Write + Drop>(
         &mut self,
         writer: &mut Out<W>,
@@ -297,7 +297,7 @@ impl LinesSoFar {
         send_last_line(writer, text, Some(fault))
     }
 
-    /// What the lines came to.
+    /// How the lines ended.
     fn over(&self, fault: Option<TalkFault>) -> Finished
         ensures { result ≡ record { lines = self.now.input.taken; errors = self.now.errors; fault = fault } }
     {

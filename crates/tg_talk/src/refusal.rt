@@ -1,4 +1,4 @@
-//! Refusals that are no `WireFault`, each as its line.
+//! The lines of refusals for which there is no `WireFault`.
 
 ghost use Rattle.std.specs.Prelude.{◌≡◌};
 ghost use Rattle.tg_talk.specs.Promise.Refusals.{not_for_a_session_line as line_of_no_session, too_many_line as line_of_too_many};

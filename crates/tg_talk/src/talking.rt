@@ -34,14 +34,15 @@ pub struct Talked<L: Ledger> {
 }
 
 /// Answers each line. Answers to lines that came together are written together, and nothing is held back when more is
-/// read: then, and when the talk ends, the writer has all of them unless it fails. Until a hello has succeeded, each
-/// other line that can be read is answered `no actor`; then a hello is answered `bound`, and a line that asks for the
-/// shade or for the collector `not for a session`. The seat, 0 to 63, is this one, whatever seat a line names; above
-/// 63, or once `PARTS - 1` sessions were given, each hello is answered `no seat`. The talk ends at a bye, which is
-/// answered, at the end of the input, at a line of more than 16,384 bytes, at the line after the millionth, and when
-/// the reader or the writer fails. If there is no memory to read a line or for its answer's line, `out of memory` is
-/// answered in its place; but if there is none for the line of a reply, nothing is, and the talk ends. If there is none
-/// for the buffer of 32,768 bytes, no line is read. A session that a hello began is ended here, whatever ends the talk.
+/// read: by then, and when the talk ends, the writer has received all of them, unless it fails. Until a hello has
+/// succeeded, each other line that can be read is answered `no actor`; then a hello is answered `bound`, and a line
+/// that asks for the shade or for the collector `not for a session`. The seat, 0 to 63, is this one, whatever seat a
+/// line names; above 63, or once `PARTS - 1` sessions were given, each hello is answered `no seat`. The talk ends at a
+/// bye, which is answered, at the end of the input, at a line of more than 16,384 bytes, at the line after the
+/// millionth, or when the reader or the writer fails. If there is no memory to read a line or for its answer's line,
+/// `out of memory` is answered in its place; but if there is none for the line of a reply, nothing is, and the talk
+/// ends. If there is none for the buffer of 32,768 bytes, no line is read. A session that a hello has begun is ended
+/// here, whatever ends the talk.
 pub fn talk<L: Ledger, D: Read, W: Write + Drop, R: Wait + Clock, G: Gate>(
     rt: &R,
     alloc: Global,

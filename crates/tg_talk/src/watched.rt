@@ -9,7 +9,7 @@ use std::io;
 use std::io::{BufWriter, Read, Write};
 
 /// A reader or a writer, and whether a read or a write on it has failed: whether one returned an error, or a write took
-/// 0 bytes of some. Once it has failed it stays so.
+/// 0 bytes of some. Once it has failed, that stays noted.
 #[derive(Drop)]
 pub struct Watched<D> {
     device: D,

@@ -1,4 +1,4 @@
-//! Which field of a refused line is at fault, for whoever wrote it. No contract says it.
+//! Which field of a refused line is at fault, for whoever wrote the line. No contract says so.
 
 use crate::field;
 use crate::field::has;

@@ -81,7 +81,7 @@ impl LineRoom {
         }
     }
 
-    /// Lends the line that was written last; nothing is known of it if memory for it ran out.
+    /// Lends the line that was written last; it may be anything if memory for it ran out.
     #[inline(always)]
     pub fn line(&self) -> &[u8]
         ensures { result.now ≡ self.now }

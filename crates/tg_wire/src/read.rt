@@ -30,7 +30,7 @@ use tg_rights::{Command, Rule};
 use tg_vault::Event;
 
 /// The value of an event line, or its first fault. `seat` is 0 if it is absent; `collect` and `cycle` do not use it,
-/// but if it is given it has to be a number there too.
+/// but even there it has to be a number if it is given.
 pub fn read_line(alloc: Global, bytes: &[u8]) -> Result<Line, WireFault>
     ensures answered { Answers result (line_of bytes.now) }
     ensures short { result ≡ Err OutOfMemory → length bytes.now ≤ LONGEST_LINE }
@@ -52,8 +52,8 @@ pub fn read_line_in(room: &mut LineRoom, alloc: Global, bytes: &[u8]) -> Result<
     }
 }
 
-/// As `read_line_in`, with the value put in the place of another one, so that it is not moved. If there is a fault,
-/// what is there then means nothing.
+/// As `read_line_in`, with the value put in the place of another one, so that it is not moved. After a fault, what is
+/// there means nothing.
 #[inline(always)]
 #[tactic(auto, unfolding(crate::specs::Promise::Lines::line_of))]
 pub fn read_line_into(
@@ -75,8 +75,8 @@ pub fn read_line_into(
     put_other(tokens, alloc, bytes, line)
 }
 
-/// Puts a leave at seat 0 in the place of a line. Where a command was entered from, a leave stands already, of which
-/// only the seat is written.
+/// Puts a leave at seat 0 in the place of a line. If a command was entered from there, a leave already stands there,
+/// and only its seat is written.
 #[inline(always)]
 fn begin(line: &mut Line)
     ensures { line.new ≡ Act (Ask 0 Leave) }
@@ -129,7 +129,7 @@ fn put_object(alloc: Global, object: &LineObject<'_>, line: &mut Line) -> Result
     }
 }
 
-/// Puts a line in the place of a leave, of which nothing has to be dropped.
+/// Puts a line in the place of a leave, which has nothing to drop.
 #[inline(always)]
 fn replace_leave(place: &mut Line, line: Line)
     requires { place.old ≡ Act (Ask 0 Leave) }

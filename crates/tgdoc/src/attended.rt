@@ -1,4 +1,4 @@
-//! Those who attend to a server beside the control socket: over the log, and over the history.
+//! What is written beside a server: its log, and the file of its history.
 
 use std::alloc::Global;
 use std::fs::{Files, OpenOptions};

@@ -40,9 +40,9 @@ enum Ending {
 
 /// Reads a configuration line, a goal line and step lines, and answers the verdict on the steps, which are carried out
 /// one after another from the graph of the configuration. Every line is read before a verdict is answered. A line that
-/// is refused ends the audit with its `error` line. So does the end of the input when a configuration or a goal is
-/// wanted, which is read as an empty line and not counted, a line of more than 16,384 bytes, and the line after the
-/// millionth. Each verdict but `shared` counts as an error. If there is no memory for the steps or for the verdict's
+/// is refused ends the audit with its `error` line. So do a line of more than 16,384 bytes, the line after the
+/// millionth, and the end of the input where a configuration or a goal is wanted; that is read as an empty line, and
+/// not counted. Each verdict but `shared` counts as an error. If there is no memory for the steps or for the verdict's
 /// line, `out of memory` is answered in its place; if there is none for the buffer of 32,768 bytes, no line is read.
 pub fn audit_lines<R: Read, W: Write + Drop>(
     alloc: Global,

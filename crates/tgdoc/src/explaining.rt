@@ -7,15 +7,15 @@ use std::io;
 use std::io::{Eprint, Read};
 use tg_wire::{LONGEST_LINE, LineKind, WireFault, key_at_fault, read_line, read_step};
 
-/// A reader of lines. If it explains them, it says of each that is refused for itself its number, from 1, and the field
-/// that is at fault. The first lines, which are neither events nor steps, it leaves out.
+/// A reader of lines. If it explains them, it reports each one that is refused by itself: its number, from 1, and the
+/// field at fault. It leaves out the first lines, which are neither events nor steps.
 #[derive(Drop)]
 pub(crate) struct Explaining<'a, N, R> {
     device: R,
     rt: &'a N,
     alloc: Global,
     kind: Option<LineKind>,
-    /// The bytes of the line that is not at its end, as many as a line may have and one more.
+    /// The bytes so far of a line that has not ended, at most one more than a line may have.
     line: Vec<u8>,
     number: u64,
 }
@@ -85,7 +85,7 @@ fn hear<N: Eprint>(
     }
 }
 
-/// Says why a line is refused, if it is one of this kind and is.
+/// Says why a line of this kind is refused, if it is.
 fn explain<N: Eprint>(rt: &N, alloc: Global, kind: LineKind, line: &[u8], number: u64) {
     let (first, fault) = match kind {
         LineKind::Event => (2, read_line(alloc, line).err()),

@@ -1,7 +1,7 @@
 //! Laws: each function is a theorem, its contract, and costs nothing when it is called.
 ghost use Rattle.tgdoc.specs.Promise.Meanings.{AuditsShow, LinesHaveMeanings, PicturesCount, RunsBegin, SharingIsShown, WordsHaveMeanings};
 
-/// What the answer to a line tells of the event that it asks for, or of a cycle of one step.
+/// What the answer to a line tells about the event that it asks for, or about a cycle of one step.
 pub fn lines_have_meanings()
     ensures { LinesHaveMeanings }
 {}
@@ -21,7 +21,7 @@ pub fn pictures_count()
     ensures { PicturesCount }
 {}
 
-/// A server has a seat more than workers, and a word names one vertex at most.
+/// There are more seats than a server has workers, and a word names one vertex at most.
 pub fn words_have_meanings()
     ensures { WordsHaveMeanings }
 {}

@@ -40,7 +40,7 @@ pub(crate) fn answer_lookup(
     }
 }
 
-/// All vertices that are asked for, if that takes no more than it may.
+/// All vertices that are asked for, if that takes no more than the bound allows.
 fn listing(
     alloc: Global,
     graph: &Graph,

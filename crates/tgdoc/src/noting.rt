@@ -1,4 +1,5 @@
-//! Readers and writers that note why they failed, and how what is written begins, so that standard error can say it.
+//! Readers and writers that note why they failed, and whether what is written is a refusal, so that standard error can
+//! say more.
 
 ghost use Rattle.std.specs.Prelude.{◌≡◌};
 

@@ -1,7 +1,7 @@
-//! How a server is operated, and what it is asked by those who operate it.
+//! How a server is operated, and what those who operate it ask.
 use tg_serve::Operating;
 
-/// What a server is asked for besides whom it serves and how many.
+/// What a server is asked for, besides whom it serves and how many clients.
 #[derive(Debug, Drop)]
 pub struct Operation {
     /// Its bounds, and what those who attend to it want.
@@ -15,9 +15,9 @@ pub struct Operation {
 /// What is asked of a server through its control socket.
 #[derive(Clone, Copy, PartialEq, Eq, Debug)]
 pub enum Request {
-    /// What it does; shown again after so many seconds each, if there is a number.
+    /// Its status; shown again every so many seconds, if there is a number.
     Status { watch: Option<u64> },
-    /// To end, and to wait for its clients for so many seconds.
+    /// To end, once it has waited this many seconds for its clients.
     Stop { within: u64 },
     /// To end this round, and to go on with the next one.
     EndRound { within: u64 },

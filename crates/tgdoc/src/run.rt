@@ -38,7 +38,7 @@ pub(crate) enum Output<'q> {
 /// Reads a configuration line and then event lines, and answers each. Answers to lines that came together are written
 /// together, and nothing is held back when more is read, nor at the end. A configuration line that is refused ends the
 /// run; an event line that is refused does not. No line at all is read as an empty one, which is not counted. The run
-/// ends at the end of the input, at a line of more than 16,384 bytes, at the line after the millionth, and when the
+/// ends at the end of the input, at a line of more than 16,384 bytes, at the line after the millionth, or when the
 /// reader or the writer fails. If there is no memory for an answer's line, `out of memory` is answered in its place; if
 /// there is none for the buffer of 32,768 bytes, no line is read.
 pub fn run_lines<R: Read, W: Write + Drop>(
@@ -75,14 +75,14 @@ pub fn draw_lines<R: Read, W: Write + Drop>(
 }
 
 /// Carries out lines as `run_lines` does, without their answers, and then answers whether rights can ever be shared in
-/// the graph to which they led, whatever its subjects do: in the plain graph of all commands that were carried out, of
-/// which no vertex is collected. For a yes it writes a derivation for `audit_lines`: the configuration line, the goal,
-/// the commands that changed edges, and steps that lead to the goal; or these steps alone, if the question asks for
-/// that. A no is `{"verdict":"never"}`. `{"verdict":"no serial"}` says that it took more new vertices than serials are
-/// left. If a word of the question names no vertex, the answer is `{"error":"no vertex","vertex":N}` or `{"error":"no
-/// principal"}`. A refused configuration, and a line that ends the run, are answered as by `run_lines`, and the
-/// question is not; nor is it if the reader or the writer fails. If there is no memory for the answer, `out of memory`
-/// is written in its place.
+/// the graph to which they led, whatever its subjects do: in the plain graph of all commands that were carried out,
+/// from which no vertex is collected. For a yes it writes a derivation for `audit_lines`: the configuration line, the
+/// goal, the commands that changed edges, and steps that lead to the goal; or these steps alone, if the question asks
+/// for that. A no is `{"verdict":"never"}`. `{"verdict":"no serial"}` says that it would take more new vertices than
+/// there are serials left. If a word of the question names no vertex, the answer is `{"error":"no vertex","vertex":N}`
+/// or `{"error":"no principal"}`. A refused configuration, and a line that ends the run, are answered as by
+/// `run_lines`, and the question is not; nor is it if the reader or the writer fails. If there is no memory for the
+/// answer, `out of memory` is written in its place.
 pub fn share_lines<R: Read, W: Write + Drop>(
     alloc: Global,
     question: &Question,

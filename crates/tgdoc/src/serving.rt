@@ -1,4 +1,4 @@
-//! A server, and those who attend to it beside it.
+//! A server, with its control socket, its log and the file of its history.
 ghost use Rattle.std.specs.Prelude.{◌≡◌, ◌↔◌, ◌⊎◌, IfSome, false, true};
 ghost use Rattle.std.specs.Process.{exit_status};
 ghost use Rattle.tg_talk.specs.Promise.Devices.{device_of, has_failed};
@@ -152,7 +152,7 @@ fn serve_beside<N: Platform + Eprint, R: Read, W: Write>(
     )
 }
 
-/// A desk with a place for each worker, if anybody attends.
+/// A desk, with a place for each worker if there is a control socket or a log.
 fn desk_of(alloc: Global, asked: &Asked) -> Result<Desk, AllocError> {
     let operating = asked.operating;
     if operating.is_attended || operating.notifies {
