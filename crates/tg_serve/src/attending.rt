@@ -35,15 +35,15 @@ const MOST_DIGITS: usize = 5;
 pub(crate) enum Request {
     /// What the server does.
     Status,
-    /// To stop, and to wait for clients for so many seconds.
+    /// To stop, after waiting this many seconds for clients.
     Stop { within: u64 },
-    /// The same of the round alone.
+    /// The same for this round alone.
     EndRound { within: u64 },
 }
 
 /// Serves one client of the socket after the other, each for at most five seconds, until the server has ended. The
-/// listener has to be one that does not wait (`set_nonblocking`). The room for a line is taken as it begins, so that a
-/// server that has no memory left can be stopped all the same.
+/// listener has to be one that does not wait (`set_nonblocking`). Memory for a line is allocated at the start, so that
+/// a server that has none left can still be stopped.
 pub fn attend<R: Wait + Clock>(
     rt: &R,
     alloc: Global,
@@ -99,7 +99,7 @@ fn serve_turn<R: Wait + Clock>(
     }
 }
 
-/// Answers the lines that end in these bytes, which follow those that have come; whether its turn goes on.
+/// Answers the lines that end in these bytes, which follow those that have come; returns whether its turn goes on.
 fn answer_lines<C: Clock>(
     clock: &C,
     alloc: Global,
@@ -129,7 +129,7 @@ fn answer_lines<C: Clock>(
     true
 }
 
-/// Sends all bytes before this time; whether that was done.
+/// Sends all bytes before this time; returns whether that was done.
 fn send<C: Clock>(clock: &C, stream: &UnixStream, bytes: &[u8], end: u64) -> bool {
     let mut sent = 0usize;
     for _ in 0..u64::MAX {
@@ -158,8 +158,8 @@ enum Answer {
     Made(String),
 }
 
-/// Does what a line asks, and returns the line of the answer. Only a status takes memory, and what is not written as
-/// `plain_request` has it.
+/// Does what a line asks, and returns the line of the answer. Memory is needed only for a status, and for a line that
+/// `plain_request` does not read.
 fn answer_to<C: Clock>(
     clock: &C,
     alloc: Global,

@@ -61,8 +61,8 @@ pub(crate) fn most_bytes(edges: u64) -> u64 {
     EXCHANGE + MOST_TEXT.max(EDGE * edges.min(MOST_EDGES))
 }
 
-/// How many of so many lines a worker may take at once, if this much is left for all workers and a line may take so
-/// much: its share of what is left, and one at least.
+/// How many of these lines a worker may take at once, if this much is left for all workers and a line may take up to
+/// `most`: its share of what is left, and at least one.
 pub(crate) fn lines_within(lines: u64, left: u64, workers: u64, most: u64) -> u64
     ensures some { 0 < lines → 0 < result }
     ensures few { result ≤ lines }
@@ -88,7 +88,7 @@ pub(crate) struct Budget {
 }
 
 impl Budget {
-    /// Nothing is kept yet, of so many bytes at most; this many workers share them.
+    /// Nothing is kept yet; this many workers share at most this many bytes.
     pub(crate) fn new(bound: Option<u64>, workers: u64) -> Budget {
         Budget {
             bound,

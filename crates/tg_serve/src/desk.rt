@@ -1,4 +1,4 @@
-//! The desk of a server: what it tells of itself while it runs, and what it is asked to do.
+//! The desk of a server: what it reports while it runs, and what it is asked to do.
 
 use crate::operating::Operating;
 use std::alloc::{AllocError, Global};
@@ -99,15 +99,15 @@ pub struct Departure {
     pub seconds: u64,
 }
 
-/// What those who attend to a server have from it, and what they ask of it. Nobody at the desk makes the server wait
-/// but for a few instructions.
+/// Where a server leaves what its control socket, its log and its history take, and finds what it is asked. Nobody at
+/// the desk makes the server wait for more than a few instructions.
 #[derive(Drop)]
 pub struct Desk {
     pub(crate) counts: Counts,
     places: Vec<Place>,
     /// When clients of this round are no longer waited for, in milliseconds; `NEVER` until somebody asks for its end.
     due: AtomicU64,
-    /// The same of a stop. It outlasts the round, so that one that comes as the next round begins is not lost.
+    /// The same for a stop. It outlasts the round, so that a stop that comes as the next round begins is not lost.
     stop_due: AtomicU64,
     /// What the clock said last, in milliseconds, since the end of a round was first asked for.
     now: AtomicU64,
@@ -119,7 +119,7 @@ pub struct Desk {
     /// Notices that were lost.
     lost: AtomicU64,
     histories: Mutex<Vec<Vec<Entry>>>,
-    /// Whether a history was lost for want of memory.
+    /// Whether a history was lost for lack of memory.
     lacks_history: AtomicBool,
 }
 
@@ -205,7 +205,7 @@ impl Desk {
         lower(&self.stop_due, clock, within);
     }
 
-    /// The same of this round alone; the next one follows.
+    /// The same for this round alone; the next one follows.
     pub fn end_round<C: Clock>(&self, clock: &C, within: u64) {
         lower(&self.due, clock, within);
     }
@@ -233,7 +233,7 @@ impl Desk {
         std::mem::replace(&mut *histories, Vec::new(alloc))
     }
 
-    /// Whether the history of a round was lost for want of memory.
+    /// Whether the history of a round was lost for lack of memory.
     pub fn lacks_history(&self) -> bool {
         self.lacks_history.load(Ordering::SeqCst)
     }

@@ -10,10 +10,10 @@ use std::sync::{Mutex, Wait};
 use std::time::Duration;
 use std::{io, thread};
 
-/// For how many milliseconds a call waits before the server looks whether it is still to wait.
+/// How long a call waits before the server checks whether to wait on, in milliseconds.
 const TICK: u64 = 250;
 
-/// For how long, in milliseconds, a client that cannot be accepted for want of descriptors or memory is tried again.
+/// For how long, in milliseconds, a client that cannot be accepted for lack of descriptors or memory is tried again.
 const MOST_RESTS: u64 = 10_000;
 
 /// How long to rest between two looks at a listener that does not wait, in milliseconds.
@@ -51,7 +51,7 @@ impl<'a> Door<'a> {
     }
 
     /// Waits for a client, and takes it from the connections left. None once none is left or the door is closed. One
-    /// that cannot be accepted for want of descriptors or memory is tried again for ten seconds, with growing rests,
+    /// that cannot be accepted for lack of descriptors or memory is tried again for ten seconds, with growing rests,
     /// before it counts as a connection; one that fails otherwise counts at once.
     pub(crate) fn take<R: Wait + Clock>(&self, rt: &R) -> Option<Taken> {
         let mut left = self.left.lock(rt);
@@ -93,7 +93,7 @@ impl<'a> Door<'a> {
     }
 }
 
-/// For how long a call waits before the server looks whether it is still to wait.
+/// How long a call waits before the server checks whether to wait on.
 pub(crate) fn tick() -> Duration {
     Duration::from_millis(TICK)
 }
@@ -130,7 +130,7 @@ pub(crate) fn is_tick(error: &io::Error) -> bool {
 /// memory.
 const WANTS: [i32; 4] = [23, 24, 105, 12];
 
-/// Whether a call failed for want of descriptors or memory.
+/// Whether a call failed for lack of descriptors or memory.
 pub(crate) fn is_want(error: &io::Error) -> bool {
     error
         .raw_os_error()

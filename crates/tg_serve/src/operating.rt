@@ -2,7 +2,8 @@
 ghost use Rattle.std.specs.Prelude.{◌≡◌};
 ghost use Rattle.tg_serve.specs.Promise.Serving.{unbounded};
 
-/// What bounds a server, besides its numbers of workers and connections, and what those who attend to it want.
+/// What bounds a server, besides its numbers of workers and connections, and what its control socket, log and history
+/// want.
 #[derive(Clone, Copy, Debug, PartialEq, Eq)]
 pub struct Operating {
     /// Seconds for which a client may keep the server waiting, for a line or until it takes its answers: 1 to 86,400;
@@ -22,7 +23,7 @@ pub struct Operating {
 }
 
 impl Operating {
-    /// No bound of either kind, and nobody attends.
+    /// No bound of either kind, and no control socket, log or history.
     pub fn none() -> Operating
         ensures { result ≡ unbounded }
     {

@@ -1,6 +1,6 @@
-//! The collector's pace. Its own thread makes few steps and rests; whoever makes a vertex while less than half is free
-//! makes steps too: with up to three edges a slot, so many that two cycles end before the last slot is taken, however
-//! slow that thread is. No contract says so.
+//! The collector's pace. Its own thread makes few steps and rests; a session that makes a vertex while less than half
+//! is free makes steps too. With up to three edges a slot, these are enough for two cycles to end before the last slot
+//! is taken, however slow that thread is. No contract says so.
 
 use crate::budget::Budget;
 use crate::desk::Desk;
@@ -89,7 +89,8 @@ fn assist_steps_for(free: u64, all: u64) -> u64 {
 }
 
 /// The gate of a server's sessions. What is entered counts towards the memory of the round, whose door closes once that
-/// is used up. Whoever makes a vertex also assists the collector by these steps, with the lock free between any two.
+/// is used up. A session that makes a vertex also assists the collector by these steps, with the lock free between any
+/// two.
 #[derive(Drop)]
 pub(crate) struct Assisting<'a, L: Ledger> {
     pub(crate) shared: &'a Shared<L>,

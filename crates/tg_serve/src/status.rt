@@ -1,4 +1,4 @@
-//! What a server says of itself: one line of JSON.
+//! A server's status: one line of JSON.
 
 use crate::desk::{Desk, Place, milliseconds};
 use std::alloc::{AllocError, Global};

@@ -1,4 +1,4 @@
-//! What the system says of the server's own limits.
+//! What the system says about the server's own limits.
 use std::alloc::Global;
 use std::fs::File;
 use std::io;
