@@ -213,7 +213,8 @@ impl Derivation {
     }
 
     /// Passes a load on, by a vertex from which the giver can take and to which the taker can give: the taker makes a
-    /// document, over which the giver comes to have grant. `None` if no serial is left.
+    /// document, over which the giver comes to have grant. `None` if no serial is left; which number is returned
+    /// otherwise does not matter.
     pub(crate) fn push(
         &mut self,
         giver: u64,

@@ -52,7 +52,8 @@ impl Derivation {
         Ok(root)
     }
 
-    /// The load goes over a bridge whose grant leads from the span of the next actor.
+    /// The load goes over a bridge whose grant leads from the span of the next actor, which is returned; `None` if no
+    /// serial is left.
     fn cross_granting(
         &mut self,
         alloc: Global,
@@ -78,7 +79,7 @@ impl Derivation {
         Ok(Some(next))
     }
 
-    /// The load goes over a bridge whose grant leads to the span of the next actor.
+    /// The load goes over a bridge whose grant leads to the span of the next actor, which is returned.
     fn cross_granted(
         &mut self,
         alloc: Global,
@@ -102,7 +103,8 @@ impl Derivation {
         Ok(next)
     }
 
-    /// The load goes over a bridge of takes alone, which both lead to an actor.
+    /// The load goes over a bridge of takes alone, which from both sides lead to an actor. Returns the next actor;
+    /// `None` if no serial is left.
     fn cross_taking(
         &mut self,
         alloc: Global,
@@ -127,7 +129,8 @@ impl Derivation {
         Ok(Some(next))
     }
 
-    /// The load goes from hand to hand, until somebody can give it to the goal's own vertex or that can take it.
+    /// The load goes from hand to hand, until somebody can give it to the goal's own vertex or that can take it. `None`
+    /// if no serial is left.
     pub(crate) fn carry(
         &mut self,
         alloc: Global,

@@ -18,7 +18,8 @@ use tg_graph::{Goal, Graph};
 use tg_rights::{Kind, Rights};
 
 impl Derivation {
-    /// The goal's own vertex comes to have the load, from where it was brought.
+    /// The goal's own vertex comes to have the load, from where it was brought. `None` if no serial is left; which
+    /// number is returned otherwise does not matter, here and below.
     fn hand_over(
         &mut self,
         graph: &Graph,
@@ -78,7 +79,7 @@ impl Derivation {
         Ok(())
     }
 
-    /// The goal's own vertex comes to have the rights of an envoy that was brought.
+    /// The goal's own vertex comes to have the rights of an envoy that was brought. `None` if no serial is left.
     fn take_over(
         &mut self,
         graph: &Graph,
@@ -145,7 +146,7 @@ impl Derivation {
     }
 
     /// The goal's own vertex comes to have the rights, which an actor can take from a vertex: by an envoy, which the
-    /// actor makes, and which is no vertex on the way.
+    /// actor makes, and which is not a vertex on the way. `None` if no serial is left.
     fn send(
         &mut self,
         alloc: Global,
@@ -179,6 +180,7 @@ impl Derivation {
     }
 
     /// The same where no vertex on the way is the one over which the rights are: the rights themselves are passed on.
+    /// `None` if no serial is left.
     fn pass(
         &mut self,
         alloc: Global,
@@ -209,7 +211,7 @@ impl Derivation {
         self.hand_over(graph, marks, end, &load)
     }
 
-    /// The goal's own vertex comes to have the rights, which a spanned vertex has.
+    /// The goal's own vertex comes to have the rights, which a spanned vertex has. `None` if no serial is left.
     pub(crate) fn derive(
         &mut self,
         alloc: Global,
