@@ -144,7 +144,7 @@ impl Derivation {
         Ok(Some(serial))
     }
 
-    /// The actor comes to be able to take from the end of a path of takes.
+    /// The actor comes to be able to take from the end of a path of takes. Only contracts use `graph`.
     pub(crate) fn draw(
         &mut self,
         graph: &Graph,

@@ -182,7 +182,8 @@ impl Marks {
         }
     }
 
-    /// An actor from which takes lead to a spanned vertex, and the later vertices of the path.
+    /// An actor from which takes lead to a spanned vertex, and the later vertices of the path. Only contracts use
+    /// `graph`.
     pub(crate) fn path_to(
         &self,
         alloc: Global,
