@@ -47,7 +47,7 @@ fn put_head(out: &mut Vec<u8>, alloc: Global, scene: &Scene, label: &[u8]) -> Re
     put_seats(out, seats)
 }
 
-/// Writes the vertices, behind what all of them have, and the edges.
+/// Writes what holds for all vertices, then the vertices and the edges.
 #[tactic(auto, unfolding(crate::specs::Promise::Picture::body_text))]
 fn put_body(out: &mut Vec<u8>, scene: &Scene) -> Result<(), AllocError>
     ensures { OnOk result (out.new.items ≡ out.old.items ++ body_text scene.now.names scene.now.seats.items scene.now.vertices.items scene.now.edges.items) }

@@ -22,9 +22,9 @@ pub struct Actor {
     pub draws: Draws,
     /// Whether it may retire: the load stays as it is if few do.
     pub is_guest: bool,
-    /// Rights over vertices, which whoever acts made or took and will give up.
+    /// Rights over vertices that the one who acts has made or taken, and will give up.
     pub held: Vec<(u64, Rights)>,
-    /// The same of the principal, while the session acts for a subject.
+    /// The same for the principal, while the session acts for a subject.
     pub kept: Vec<(u64, Rights)>,
     /// A subject that was made, for which the session acts next.
     pub subject: Option<u64>,

@@ -5,7 +5,7 @@ use crate::opening::{GUEST, PRINCIPALS};
 use std::alloc::{AllocError, Global};
 use tg_rights::{Command, Kind, Name, Rights, Rule, Text};
 
-/// Of so many rules one is an enrol, one a retire, one an assume and one a leave. It is a multiple of 7, so that the
+/// Of this many rules one is an enrol, one a retire, one an assume and one a leave. It is a multiple of 7, so that the
 /// others are drawn alike.
 const RARELY: u64 = 700;
 

@@ -199,8 +199,8 @@ impl Desk {
         Ok(desk)
     }
 
-    /// Asks that nobody is let in any more, that after so many seconds clients are no longer waited for, and that the
-    /// server ends with this round. If that was asked before, the earlier time counts.
+    /// Asks that nobody be let in any more, that clients no longer be waited for after this many seconds, and that the
+    /// server end with this round. If that was asked before, the earlier time counts.
     pub fn stop<C: Clock>(&self, clock: &C, within: u64) {
         lower(&self.stop_due, clock, within);
     }
@@ -424,7 +424,7 @@ impl Desk {
     }
 }
 
-/// Brings a time forward to that in so many seconds, if that is earlier.
+/// Brings a time forward to this many seconds from now, if that is earlier.
 fn lower<C: Clock>(due: &AtomicU64, clock: &C, within: u64) {
     let asked = milliseconds(clock)
         .saturating_add(within.saturating_mul(1_000))

@@ -79,7 +79,7 @@ fn write_clients(line: &mut String, places: &[Place], now: u64) -> Result<(), Al
     Ok(())
 }
 
-/// The counts behind the clients.
+/// The counts that follow the clients.
 fn write_counts(line: &mut String, desk: &Desk) -> Result<(), AllocError> {
     let counts = &desk.counts;
     write!(line, "],\"entries\":{},", number(&counts.entries))?;

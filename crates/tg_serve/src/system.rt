@@ -31,7 +31,7 @@ pub(crate) fn available_in(memory: &str) -> Option<u64> {
     number_behind(memory, "MemAvailable:")?.checked_mul(1_024)
 }
 
-/// The first number behind a label at the beginning of a line.
+/// The first number after a label at the beginning of a line.
 fn number_behind(text: &str, label: &str) -> Option<u64> {
     for line in text.lines() {
         if let Some(rest) = line.strip_prefix(label) {

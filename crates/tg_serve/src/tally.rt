@@ -1,6 +1,6 @@
 //! What answers tell: how many refuse, deny, or say that storage is full, and who was greeted.
 
-/// The longest beginning of an answer that tells something: a greeting, with its serial.
+/// The longest beginning of an answer that is looked at: a greeting, with its serial.
 const LONGEST: usize = 48;
 
 const GREETING: &[u8] = b"{\"ok\":\"hello\",\"vertex\":";

@@ -25,7 +25,7 @@ pub(crate) enum Waited {
 }
 
 impl Waiting {
-    /// Nothing was waited for yet. The client may be waited for so many seconds, or for ever if there is no number.
+    /// Nothing was waited for yet. The client may be waited for this many seconds, or for ever if there is no number.
     pub(crate) fn new(patience: Option<u64>) -> Waiting {
         Waiting {
             patience: patience.map(Duration::from_secs),

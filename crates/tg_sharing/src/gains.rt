@@ -97,7 +97,7 @@ fn row_of(alloc: Global, count: usize) -> Result<Vec<Rights>, AllocError> {
 }
 
 impl Table {
-    /// No rights, of so many places.
+    /// No rights, for this many places.
     fn new(alloc: Global, count: usize) -> Result<Table, AllocError> {
         let mut rows = Vec::new(alloc);
         for _ in 0..count {

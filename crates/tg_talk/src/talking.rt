@@ -148,7 +148,7 @@ impl<'a, 's, L: Ledger, R: Wait + Clock, G: Gate> Responder for Host<'a, 's, L, 
     }
 }
 
-/// Ends the session of the one who sits.
+/// Ends the session, if there is one.
 fn leave<'s, L: Ledger, R: Wait>(rt: &R, sitting: Option<Session<'s, L>>) -> Option<Ended<L>>
     ensures { Leaves sitting.entry result }
 {

@@ -85,7 +85,7 @@ pub fn hellos_leave_room()
     ensures { HellosLeaveRoom }
 {}
 
-/// What the headline says of a read, of a denial for missing rights, and of the numbers that are told.
+/// What the headline says about a read, a denial for missing rights, and the numbers in answers.
 pub fn headline_has_meaning()
     ensures { HeadlineHasMeaning }
 {

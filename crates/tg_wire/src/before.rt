@@ -9,7 +9,7 @@ ghost use Rattle.tg_rights.specs.Promise.Written.{rights_text};
 use itoa::write_digits;
 use tg_rights::Rights;
 
-/// The letters of rights in quotes, by their bits: the last so many of these bytes.
+/// The letters of rights in quotes, by their bits: as many of the eight bytes as the number says, the last ones.
 const LETTERS: [([u8; 8], usize); 16] = [
     (*b"      \"\"", 2),
     (*b"     \"r\"", 3),

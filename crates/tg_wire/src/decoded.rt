@@ -47,7 +47,7 @@ pub(crate) fn read_decoded<'a>(
     }
 }
 
-/// Writes the text behind a quote into the room, and returns the place after the quote that ends it. `None` if it has
+/// Writes the text after a quote into the room, and returns the place after the quote that ends it. `None` if it has
 /// other escapes.
 fn decode(bytes: &[u8], from: usize, text: &mut Vec<u8>) -> Result<Option<usize>, AllocError>
     requires { from ≤ length bytes.now }

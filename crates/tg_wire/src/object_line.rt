@@ -84,7 +84,7 @@ pub(crate) fn put_led_text(line: &mut LastLine, lead: &[u8], text: &[u8]) -> Res
     put_long_text(line, lead, text)
 }
 
-/// The same of a short text.
+/// The same for a short text.
 #[inline(always)]
 fn put_short_text(line: &mut LastLine, lead: &[u8], text: &[u8])
     requires some { 0 < length lead.now }
@@ -97,7 +97,7 @@ fn put_short_text(line: &mut LastLine, lead: &[u8], text: &[u8])
     line.put_start(end, lead);
 }
 
-/// The same of any other text.
+/// The same for any other text.
 #[inline(always)]
 #[tactic(auto, using(crate::proofs::ObjectLineLemmas::in_three))]
 fn put_long_text(line: &mut LastLine, lead: &[u8], text: &[u8]) -> Result<(), AllocError>

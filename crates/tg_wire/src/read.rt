@@ -138,7 +138,7 @@ fn replace_leave(place: &mut Line, line: Line)
     mem::forget(mem::replace(place, line));
 }
 
-/// The same of a command.
+/// The same for a command.
 #[inline(always)]
 fn replace_command(place: &mut Command, command: Command)
     requires { place.old ≡ Leave }

@@ -85,7 +85,7 @@ fn is_space(byte: u8) -> bool
     byte == b' ' || byte == b'\t' || byte == b'\n' || byte == b'\r'
 }
 
-/// The first quote, backslash or control byte from a place on, 64 bytes at a time while there are so many, and then 16.
+/// The first quote, backslash or control byte from a place on, 64 bytes at a time while there are as many, and then 16.
 // If inlined, the loop would also count up, at each byte, what the caller computes from the place.
 #[inline(never)]
 pub(crate) fn plain_end(bytes: &[u8], from: usize) -> usize

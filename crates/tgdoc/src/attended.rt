@@ -85,8 +85,8 @@ fn word_of(fault: Option<TalkFault>) -> &'static str {
     }
 }
 
-/// Appends the histories of the server's rounds to the file until it has ended; whether all was written. What cannot be
-/// is said once on standard error, and nothing more is written then.
+/// Appends the histories of the server's rounds to the file until the server has ended; returns whether all was
+/// written. After the first failure, which standard error reports, nothing more is written.
 pub(crate) fn keep_history<N: Wait + Clock, H: Files + Eprint>(
     rt: &N,
     host: &H,
@@ -112,7 +112,8 @@ pub(crate) fn keep_history<N: Wait + Clock, H: Files + Eprint>(
     is_whole
 }
 
-/// Appends lines of the steps that changed edges to the file; whether that was done. If not, standard error says why.
+/// Appends lines of the steps that changed edges to the file; returns whether that was done. If not, standard error
+/// says why.
 fn append_or_say<N: Files + Eprint>(rt: &N, alloc: Global, path: &str, history: &[Entry]) -> bool {
     match append(rt, alloc, path, history) {
         Ok(()) => true,

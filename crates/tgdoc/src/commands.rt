@@ -1,4 +1,4 @@
-//! What the command line may have: its modes, and the options of each, as the parser is told of them.
+//! What the command line may have, for its parser: the modes, and the options of each.
 
 ghost use Rattle.std.specs.Prelude.{codes, ◌≡◌, [], false, IfOk};
 ghost use Rattle.clap.specs.Words.{app_of, new_app, rule_of, with_subcommand};

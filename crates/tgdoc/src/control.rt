@@ -25,7 +25,8 @@ const LONGEST: usize = 65_536;
 /// How many marks the bar of what is free has.
 const MARKS: u64 = 40;
 
-/// Asks the server, and prints its answer, or a table of it again and again; whether it did what was asked.
+/// Asks the server, and prints its answer, or a table of it again and again; returns whether the server did what was
+/// asked.
 pub(crate) fn ask<N: Wait + Clock + Net + Print + Eprint>(
     rt: &N,
     alloc: Global,
@@ -56,7 +57,7 @@ fn ask_within<N: Net + Print + Eprint>(
     ask_once(rt, alloc, path, line.as_str())
 }
 
-/// Asks once, and prints the answer; whether it is no error.
+/// Asks once, and prints the answer; returns whether it is not an error.
 fn ask_once<N: Net + Print + Eprint>(rt: &N, alloc: Global, path: &str, line: &str) -> bool {
     let Some(answer) = answer_or_say(rt, alloc, path, line) else {
         return false;
@@ -120,8 +121,8 @@ fn watch<N: Wait + Clock + Net + Print + Eprint>(
     unreachable!()
 }
 
-/// Asks for the status, and draws a table of it; whether that was done. An answer that is no status, such as an error,
-/// is printed as it came.
+/// Asks for the status, and draws a table of it; returns whether that was done. An answer that is not a status, such as
+/// an error, is printed as it came.
 fn draw_status<N: Net + Print + Eprint>(rt: &N, alloc: Global, path: &str) -> bool {
     let Some(answer) = answer_or_say(rt, alloc, path, STATUS) else {
         return false;

@@ -6,7 +6,7 @@ pub fn lines_have_meanings()
     ensures { LinesHaveMeanings }
 {}
 
-/// Nothing is told before the last line of a run whose first line is no configuration.
+/// Nothing is answered before the last line of a run whose first line is not a configuration.
 pub fn runs_begin()
     ensures { RunsBegin }
 {}

@@ -178,7 +178,7 @@ fn draw_last<W: Write + Drop>(
     }
 }
 
-/// The picture of the vault after so many lines, of which so many had an `error` line for an answer.
+/// The picture of the vault after this many lines and this many `error` answers.
 fn draw_end(alloc: Global, vault: &Vault, lines: u64, errors: u64) -> Result<Vec<u8>, AllocError>
     ensures { IfOk result (λ text. Draws vault.now (ends_label lines errors) text.items) }
 {

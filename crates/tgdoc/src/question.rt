@@ -28,7 +28,7 @@ pub struct Pair {
     pub to: VertexName,
     /// The rights.
     pub rights: Rights,
-    /// Whether a yes is told by the steps that lead to it alone, without the run's lines before them.
+    /// Whether the answer for a yes has only the steps that lead there, without the run's lines before them.
     pub steps: bool,
 }
 

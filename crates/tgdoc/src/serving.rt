@@ -55,8 +55,8 @@ fn socket_at<N: Files + Net + Eprint, W: Write>(
     }
 }
 
-/// Serves clients as asked, and whoever asks at the control socket at this path, as `serve_attended` does. The socket's
-/// file is gone then.
+/// Serves clients as asked, and requests at the control socket at this path, as `serve_attended` does. Afterwards the
+/// socket's file is gone.
 pub(crate) fn serve_at_socket<N: Platform + Files + Eprint, R: Read, W: Write>(
     rt: &N,
     host: &HostRuntime,
@@ -77,7 +77,7 @@ pub(crate) fn serve_at_socket<N: Platform + Files + Eprint, R: Read, W: Write>(
     status
 }
 
-/// Serves clients as asked, beside those who attend to the server; one of them at this socket, if there is one.
+/// Serves clients as asked, with a log and a history if these are asked for, and a control socket if one is given.
 pub(crate) fn serve_attended<N: Platform + Eprint, R: Read, W: Write>(
     rt: &N,
     host: &HostRuntime,
@@ -96,8 +96,8 @@ pub(crate) fn serve_attended<N: Platform + Eprint, R: Read, W: Write>(
     serve_beside(rt, host, reader, writer, asked, socket, &desk)
 }
 
-/// Serves clients as asked, and has a thread for each who attends to the server; all these have ended then. If one of
-/// them cannot be started, nobody is served, and standard error says so.
+/// Serves clients as asked, with a thread each for the control socket, the log and the history, if there are any; all
+/// of these have ended afterwards. If one cannot be started, nobody is served, and standard error says so.
 fn serve_beside<N: Platform + Eprint, R: Read, W: Write>(
     rt: &N,
     host: &HostRuntime,
