@@ -22,8 +22,8 @@ pub fn entry_step(entry: &Entry) -> Option<Step>
 }
 
 /// What the entries did to the edges, as steps of take, grant, create and remove alone: an enrol is a create of a
-/// subject, and what was refused or changes no edge is left out. From the opening graph of a vault that is no rebase of
-/// another, they lead to one with the kinds, edges and next serial of the graph of the history (`histories_derive`).
+/// subject, and what was refused or changes no edge is left out. From the opening graph of a vault that has not been
+/// rebased, they lead to one with the kinds, edges and next serial of the graph of the history (`histories_derive`).
 /// `AllocError` if an allocation failed.
 pub fn derivation(alloc: Global, vault: &Vault) -> Result<Vec<Step>, AllocError>
     ensures { IfOk result (λ steps. steps.items ≡ derivation_of vault.now.history) }

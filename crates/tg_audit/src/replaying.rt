@@ -36,9 +36,9 @@ fn retired_reply(actor: u64, command: &Command) -> Reply
     }
 }
 
-/// Carries out the entry's command if the graph allows it, and returns the reply. What no plain graph can run out of is
-/// taken from the entry. A graph judges subjects alone, and those who ask are subjects, or have retired, which the
-/// graph knows.
+/// Carries out the entry's command if the graph allows it, and returns the reply. That slots or cells were used up,
+/// which a plain graph does not have, is taken from the entry. A graph judges subjects alone, and those who ask are
+/// subjects, or have retired, which the graph knows.
 pub fn reply_to(alloc: Global, graph: &mut Graph, entry: &Entry) -> Result<Reply, AllocError>
     requires asks { IsSubjectOrRetired graph.old entry.now.actor }
     requires permitted { (limits : Limits) × Permitted limits graph.old entry.now.actor entry.now.command entry.now.outcome }
@@ -59,8 +59,8 @@ pub fn reply_to(alloc: Global, graph: &mut Graph, entry: &Entry) -> Result<Reply
     }
 }
 
-/// Carries out the entry's command as `reply_to` does, and says whether this is the reply: nothing is copied but what
-/// is stored.
+/// Carries out the entry's command as `reply_to` does, and says whether this is the reply; only what is stored is
+/// copied.
 pub fn is_reply(graph: &mut Graph, entry: &Entry, told: &Reply) -> Result<bool, AllocError>
     requires asks { IsSubjectOrRetired graph.old entry.now.actor }
     requires permitted { (limits : Limits) × Permitted limits graph.old entry.now.actor entry.now.command entry.now.outcome }

@@ -7,11 +7,11 @@ use std::alloc::Global;
 use tg_graph::Graph;
 use tg_vault::Vault;
 
-/// Settles what callers received with the history: for each seat, its entries in order, each with its actor, its
-/// command and its reply by replay, are the seat's logs joined in the order given; or the least seat, and in it the
-/// least index, at which the two differ. `NoMemory` only if there was none for the graph of the replay or a reply. It
-/// goes over the history once, and over the logs once for each seat that has entries; each reply is compared as the
-/// replay finds it.
+/// Compares what callers received with the history. `Agreed`: for each seat, its entries in order, each with its actor,
+/// its command and its reply by replay, are the seat's logs joined in the order given. Otherwise `Differs`, with the
+/// least seat, and in it the least index, at which the two differ. `NoMemory` only if there was none for the graph of
+/// the replay or a reply. It goes over the history once, and over the logs once for each seat that has entries; each
+/// reply is compared as the replay finds it.
 pub fn settle(alloc: Global, vault: Vault, logs: Vec<SeatLog>) -> Settled
     ensures { SettledAs vault logs.items result }
 {
@@ -20,8 +20,8 @@ pub fn settle(alloc: Global, vault: Vault, logs: Vec<SeatLog>) -> Settled
     settled
 }
 
-/// As `settle`, with the logs if they agree, which it drops: so they can be dropped later. Otherwise they are in the
-/// result, and there are no others.
+/// As `settle`, and returns the logs if they agree, which `settle` drops: so they can be dropped later. Otherwise they
+/// are in the result, and the list is empty.
 pub fn settle_with_logs(alloc: Global, vault: Vault, logs: Vec<SeatLog>) -> (Settled, Vec<SeatLog>)
     ensures settled { SettledAs vault logs.items result.0 }
     ensures logs { GivesBack logs.items result.0 result.1.items }
@@ -31,8 +31,8 @@ pub fn settle_with_logs(alloc: Global, vault: Vault, logs: Vec<SeatLog>) -> (Set
     (settled, logs)
 }
 
-/// As `settle_with_logs`, with the graph that the history leaves if the logs agree, which it drops: so a rebase can go
-/// on from it.
+/// As `settle_with_logs`, and returns the graph that the history leaves if the logs agree: so a rebase can go on from
+/// it.
 pub fn settle_with_graph(
     alloc: Global,
     vault: Vault,

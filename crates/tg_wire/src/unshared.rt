@@ -1,4 +1,4 @@
-//! The answers to whether rights can ever be shared that bring no steps, and to which vertices they can be.
+//! The answers without steps to whether rights can ever be shared, and the list of vertices for which they can.
 
 ghost use Rattle.std.specs.Prelude.{◌≡◌, OnOk};
 ghost use Rattle.serde_json.specs.Data.{object, member, no_members, string};
@@ -23,7 +23,7 @@ pub enum Unshared {
     NoPrincipal,
     /// No right is asked for where vertices are to be listed.
     NoRights,
-    /// It takes more than it may.
+    /// It takes more than the bound allows.
     TooMuch,
 }
 
@@ -49,8 +49,8 @@ pub fn write_unshared_in(room: &mut LineRoom, unshared: Unshared) -> Result<(), 
     }
 }
 
-/// The line of the vertices of which rights can ever be shared, each with those of the rights that are there now. In
-/// room that is kept, and with the error of `write_unshared_in`.
+/// The line that lists vertices for which rights can ever be shared, each with those of the rights that are there now.
+/// In room that is kept, and with the error of `write_unshared_in`.
 #[tactic(auto, unfolding(crate::specs::Promise::Unshared::could_line))]
 pub fn write_could_in(room: &mut LineRoom, could: &[(u64, Rights)]) -> Result<(), AllocError>
     ensures { OnOk result (room.new ≡ could_line could.now) }
