@@ -21,6 +21,14 @@ class Edit(NamedTuple):
     new: str
 
 
+class Entry(NamedTuple):
+    """A change that is made up: its name, remarks on it, and its edits."""
+
+    name: str
+    remarks: list[str]
+    edits: list[Edit]
+
+
 class Misread(ValueError):
     """What is wrong with a file of bugs, and where."""
 
@@ -53,6 +61,20 @@ def bugs_in(text: str, file: str) -> dict[str, list[Edit]]:
     for name in [it for it in bugs if not bugs[it]]:
         raise Misread(f"{name} has no old and new text")
     return bugs
+
+
+def entries_in(file: Path) -> list[Entry]:
+    """The entries of a file, a paragraph each: a name of any words, remarks in lines that begin
+    with `> `, and edits as of a bug, each `in FILE`."""
+    found = []
+    for paragraph in file.read_text(encoding="utf-8").strip().split("\n\n"):
+        rows = [row for row in paragraph.split("\n") if not row.startswith("#")]
+        remarks = [row[2:] for row in rows[1:] if row.startswith("> ")]
+        rest = [row for row in rows[1:] if not row.startswith("> ")]
+        edits = bugs_in("\n".join(["entry", *rest]), "")["entry"] if rest else []
+        if rows:
+            found.append(Entry(rows[0], remarks, edits))
+    return found
 
 
 def bugs_of(crate: Path) -> dict[str, list[Edit]]:

@@ -1,10 +1,10 @@
 """Tests that docs/THEOREM.md lists what its promises rest on, by the sources: all, and no more; and
 that what public contracts rest on stands apart from all else."""
 
-from collections.abc import Callable, Iterator
 from pathlib import Path
 
-from theorem import folders, lapses, moves
+from checking import Tests
+from theorem import folders, lapses
 from theorem.compared import complaints, sizes
 from theorem.sources import Sources
 
@@ -20,9 +20,7 @@ def is_listed(crates: Path) -> bool:
     return not found
 
 
-def tests() -> Iterator[tuple[str, Callable[[Path], bool]]]:
-    """The tests with their names."""
+def tests() -> Tests:
     yield "theorem-rests-on-what-is-listed", is_listed
     yield "definitions-stand-in-their-folders", folders.are_in_their_folders
     yield from lapses.tests()
-    yield from moves.tests()

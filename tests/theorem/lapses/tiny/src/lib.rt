@@ -1,0 +1,3 @@
+mod run;
+mod turn;
+mod word;
