@@ -2,6 +2,7 @@
 
 import os
 import re
+import shutil
 from pathlib import Path
 from typing import NamedTuple
 
@@ -75,6 +76,16 @@ def entries_in(file: Path) -> list[Entry]:
         if rows:
             found.append(Entry(rows[0], remarks, edits))
     return found
+
+
+def unpacked(kept: Path, folder: str) -> Path:
+    """Copies a made-up repository to a folder. Its files are kept with `.txt` behind their names,
+    since `rt ci` refuses sources that stand elsewhere than in a crate."""
+    for file in kept.rglob("*.txt"):
+        path = Path(folder, file.relative_to(kept)).with_suffix("")
+        path.parent.mkdir(parents=True, exist_ok=True)
+        shutil.copy(file, path)
+    return Path(folder)
 
 
 def bugs_of(crate: Path) -> dict[str, list[Edit]]:

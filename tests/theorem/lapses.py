@@ -6,13 +6,12 @@ planting/reading.py: the edits, of which one without an old text makes a file, a
 line that is told.
 """
 
-import shutil
 import tempfile
 from collections.abc import Callable, Iterator
 from pathlib import Path
 
 from checking import Tests, same
-from planting.reading import Edit, entries_in
+from planting.reading import Edit, entries_in, unpacked
 from theorem.compared import complaints
 from theorem.folders import misplaced
 from theorem.imports import Place
@@ -43,10 +42,10 @@ def edited(crates: Path, edits: list[Edit]) -> None:
 def told(tell: Teller, crates: str, edits: list[Edit]) -> list[str]:
     """What is told of the crates with these edits."""
     with tempfile.TemporaryDirectory() as folder:
-        copy = shutil.copytree(HERE / crates, folder, dirs_exist_ok=True)
-        edited(Path(copy), edits)
+        copy = unpacked(HERE / crates, folder)
+        edited(copy, edits)
         try:
-            return [*tell(Path(copy))]
+            return [*tell(copy)]
         except ValueError as error:
             return [str(error)]
 
