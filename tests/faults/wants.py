@@ -4,12 +4,12 @@ A body may always report that memory ran out, so no contract refuses one that ma
 place at which such a fault is made is found, and has to be exactly where the refusal of a call is
 handed on: in the arm `Err(_) =>` of a match on the call, in the block of a `let Ok(..) = .. else`
 or of an `if .. .is_err()`, in a `map_err`, or in the arm of another such fault. And it has to be in
-the list below, by its file and function, by the call or the fault that is handed on, and by the
+the list wants.txt, by its file and function, by the call or the fault that is handed on, and by the
 fault that is made of it. What `?` hands on is made nowhere. Modules of tests are left out.
 
 Nor does a contract say how much room a body asks for, of which there may be too little or none. So
-each size that a list is made with, or that room is taken for, is in another list, and a call that
-asks for what nobody has is seen there.
+each size that a list is made with, or that room is taken for, is in another list, sizes.txt, and a
+call that asks for what nobody has is seen there.
 
 The sources are read as text, laid out as `rt fmt` does it.
 """
@@ -49,88 +49,6 @@ FLAG_LINES = [
     "None => is_short = true,",
     "if is_short { None } else { Some(all) }",
 ]
-
-# Each place, by file, function, what is handed on, and what is made of it; and how often.
-LISTED = {
-    # The faults of the lower crates are the refusals of lists, maps and texts.
-    ("tg_audit/src/settling.rt", "settle_with_graph", "first_difference", "Settled::NoMemory"): 1,
-    ("tg_graph/src/graph.rt", "build", "Graph::open", "OpenFault::OutOfMemory"): 1,
-    ("tg_vault/src/rebase.rt", "begin_anew", "vault.opening_anew", "Rebased::NoMemory"): 1,
-    ("tg_vault/src/vault.rt", "with_key", "Store::with_key", "OpenFault::OutOfMemory"): 1,
-    ("tg_vault/src/vault.rt", "with_key", "opening.principals().copy", "OpenFault::OutOfMemory"): 1,
-    ("tg_vault/src/vault.rt", "with_key", "empty_seats", "OpenFault::OutOfMemory"): 1,
-    ("tg_vault/src/vault.rt", "ask", "self.history.try_reserve", "AskFault::OutOfMemory"): 1,
-    ("tg_vault/src/vault.rt", "ask", "self.state.answer", "AskFault::OutOfMemory"): 1,
-    ("tg_vault/src/vault.rt", "command_copy", "command.copy", "AskFault::OutOfMemory"): 1,
-    # A session submits nothing without room in its log and a copy of the command.
-    ("tg_share/src/session.rt", "carry_out", "self.log.try_reserve", "AskFault::OutOfMemory"): 1,
-    ("tg_share/src/session.rt", "carry_out", "command.copy", "AskFault::OutOfMemory"): 1,
-    ("tg_share/src/closing.rt", "close_with_graph", "Vec::with_capacity", "Closed::NoRoom"): 1,
-    # Lines: each lack of memory is one fault, and the parser says which of its own errors mean that
-    # memory ran out.
-    ("tg_wire/src/fault.rt", "from", "AllocError", "WireFault::OutOfMemory"): 1,
-    ("tg_wire/src/fault.rt", "from", "AllocFailed", "WireFault::OutOfMemory"): 1,
-    ("tg_wire/src/object.rt", "json", "e.is_memory", "WireFault::OutOfMemory"): 1,
-    # A talk, a run and an audit have buffers, and a line in place of each answer that has no room.
-    ("tg_talk/src/write_line.rt", "buffered", "BufWriter::with_capacity", "AllocError"): 1,
-    ("tg_talk/src/answering.rt", "text_of_answer", "write_answer_in", "WireFault::OutOfMemory"): 1,
-    ("tg_talk/src/answering.rt", "answer", "Said::Nothing", "TalkFault::OutOfMemory"): 1,
-    ("tg_talk/src/telling.rt", "ask", "write_reply_in", "Said::Nothing"): 1,
-    ("tg_talk/src/talking.rt", "talk", "InputLines::new", "TalkFault::OutOfMemory"): 1,
-    ("tgdoc/src/answer.rt", "tell_swept", "write_swept_in", "WireFault::OutOfMemory"): 1,
-    ("tgdoc/src/run.rt", "take_lines", "InputLines::new", "TalkFault::OutOfMemory"): 1,
-    ("tgdoc/src/pictures.rt", "drawn", "draw_line", "WireFault::OutOfMemory"): 1,
-    ("tgdoc/src/pictures.rt", "draw_last", "draw_end", "WireFault::OutOfMemory"): 1,
-    ("tgdoc/src/sharing.rt", "answer_last", "answer", "WireFault::OutOfMemory"): 1,
-    ("tgdoc/src/audit.rt", "audit_lines", "InputLines::new", "TalkFault::OutOfMemory"): 1,
-    ("tgdoc/src/audit.rt", "answer", "write_verdict", "WireFault::OutOfMemory"): 1,
-    ("tgdoc/src/audit.rt", "judge", "check", "WireFault::OutOfMemory"): 1,
-    ("tgdoc/src/audit.rt", "take_steps", "steps.push", "WireFault::OutOfMemory"): 1,
-    # A server: its buffer of lines; what a worker was refused, and what the server itself was,
-    # threads among it; settling; a rebase.
-    ("tg_serve/src/listening.rt", "read_vault", "InputLines::new", "WireFault::OutOfMemory"): 1,
-    ("tg_serve/src/serve.rt", "work", "serve_one", "None"): 1,
-    ("tg_serve/src/serve.rt", "serve_one", "talk_with", "TalkFault::OutOfMemory"): 1,
-    ("tg_serve/src/serve.rt", "serve_in_threads", FLAG, "None"): 1,
-    ("tg_serve/src/serve.rt", "serve_round", "serve_in_threads", "Unsettled::NoMemory"): 1,
-    ("tg_serve/src/serve.rt", "found_in", "Settled::NoMemory", "Unsettled::NoMemory"): 1,
-    ("tg_serve/src/serve.rt", "found_in", "Closed::NoRoom", "Unsettled::NoMemory"): 1,
-    ("tg_serve/src/rounds.rt", "rebase", "Rebased::NoMemory", "Unsettled::OutOfMemory"): 1,
-    # A text of the tests' tables is never too long, and a name is one.
-    ("tg_tests/src/cases.rt", "text", "Text::new", "AllocError"): 1,
-    ("tg_tests/src/cases.rt", "name", "Name::new", "AllocError"): 1,
-    # The program of many sessions says what it found.
-    ("tg_load/src/run.rt", "settled_close", "Settled::NoMemory", "Verdict::NoMemory"): 1,
-    ("tg_load/src/run.rt", "close_of", "Closed::NoRoom", "Verdict::NoRoom"): 1,
-    ("tg_load/src/run.rt", "run_next", "ran", "Found::NoMemory"): 1,
-}
-
-# Each size that a list or a buffer is made with, or that room is taken for, by file, function,
-# call, and the arguments without the allocator.
-SIZES = {
-    ("tg_cells/src/cells.rt", "with_key", "vec!", "owners as usize"): 1,
-    ("tg_collect/src/opening.rt", "empty_seats", "Vec::with_capacity", "SEATS as usize"): 1,
-    ("tg_collect/src/roster.rt", "new", "Vec::with_capacity", "MAX_PRINCIPALS as usize"): 1,
-    ("tg_graph/src/roll.rt", "new", "Vec::with_capacity", "MAX_PRINCIPALS as usize"): 1,
-    ("tg_index/src/buckets.rt", "new", "vec!", "buckets as usize"): 1,
-    ("tg_index/src/buckets.rt", "new", "Vec::with_capacity", "size as usize"): 1,
-    ("tg_lists/src/columns.rt", "new", "Vec::with_capacity", "count"): 2,
-    ("tg_load/src/crowd.rt", "new", "Vec::with_capacity", "sessions.saturating_add(1)"): 1,
-    ("tg_load/src/crowd.rt", "act_at_once", "threads.try_reserve", "1"): 1,
-    ("tg_serve/src/attending.rt", "attend", "Vec::with_capacity", "LONGEST"): 1,
-    ("tg_serve/src/client.rt", "new", "Vec::with_capacity", "room"): 1,
-    ("tg_share/src/closing.rt", "close_with_graph", "Vec::with_capacity", "ended.len()"): 1,
-    ("tg_share/src/session.rt", "carry_out", "self.log.try_reserve", "1"): 1,
-    ("tg_talk/src/line_buffer.rt", "new", "vec!", "CAPACITY"): 1,
-    ("tg_sharing/src/search.rt", "near_of", "Vec::with_capacity", "serials.len()"): 1,
-    ("tg_sharing/src/search.rt", "new", "Vec::with_capacity", "serials.len()"): 1,
-    ("tg_talk/src/write_line.rt", "buffered", "BufWriter::with_capacity", "HELD_BACK, device"): 1,
-    ("tg_vault/src/seats.rt", "empty_seats", "Vec::with_capacity", "SEATS as usize"): 1,
-    ("tg_vault/src/vault.rt", "ask", "self.history.try_reserve", "1"): 1,
-    ("tg_vault/src/vault.rt", "go", "Vec::with_capacity", "events.len()"): 1,
-    ("tg_wire/src/line_room.rt", "begin", "self.line.try_reserve", "ROOM"): 1,
-    ("tg_wire/src/object_line.rt", "put_quoted", "line.reserve", "text.len() + 4"): 1,
-}
 
 # A call that takes a size, and a list of so many equal elements.
 SIZED = re.compile(
@@ -262,15 +180,18 @@ def every_want_is_handed_on(crates: Path) -> None:
     found = Counter(place for file, text in texts.items() for place in places_in(file, text))
     print(f"  {found.total()} places")
     same([place for place in found if place[2] is None], [], "made of no refusal")
-    all_are_listed(found, LISTED)
+    all_are_listed(found, "wants.txt")
     lines = [line.strip() for text in texts.values() for line in text.splitlines()]
     same([line for line in lines if FLAG in line], FLAG_LINES)
 
 
-def all_are_listed(found: Counter[Any], listed: dict[Any, int]) -> None:
-    """What is found and what is listed, each as often as the other."""
+def all_are_listed(found: Counter[Any], name: str) -> None:
+    """What is found and what is listed in a file, each as often as the other. Two blanks or more
+    stand between the columns of a row."""
+    rows = Path(__file__).with_name(name).read_text().splitlines()
+    listed = Counter(tuple(re.split("  +", row)) for row in rows if row and row[0] != "#")
     for one in found.keys() | listed.keys():
-        same(found[one], listed.get(one, 0), f"how often there is {one}")
+        same(found[one], listed[one], f"how often there is {one}")
 
 
 def arguments(code: str, start: int) -> str:
@@ -297,7 +218,7 @@ def every_size_is_listed(crates: Path) -> None:
     """Each size is listed, and each one that is listed is there."""
     found = Counter(size for file, text in sources(crates) for size in sizes_in(file, text))
     print(f"  {found.total()} sizes")
-    all_are_listed(found, SIZES)
+    all_are_listed(found, "sizes.txt")
 
 
 # Functions with a size, which is seen as it is.
