@@ -17,8 +17,6 @@ from running import ROOT, SECONDS, Process, hear, ran, rest_of, started, tell
 from server.servers import AGREED, Server, running
 
 SHELL = ROOT / "examples" / "shell" / "shell"
-BEGIN = "Principals: alice, bob, carol, dave. alice has g over bob. bob has g over carol. "
-BEGIN += "`help` lists the commands.\n"
 # What a person types stands behind these, in a README and elsewhere.
 PROMPT = re.compile("[a-z]+> (.*)")
 ANY_PROMPT = re.compile("[a-z0-9 (),]*> (.*)")
@@ -37,126 +35,17 @@ def session(program: Path, typed: list[str], *words: str) -> tuple[str, int]:
     return found.stdout.decode(), found.returncode
 
 
-def printed(wanted: str, *words: str, status: int = 0, begin: str = BEGIN) -> Test:
-    """A session that prints exactly this; what is typed stands behind its prompts."""
+def printed(name: str, *words: str, status: int = 0) -> Test:
+    """A session that prints exactly what its file has; what is typed stands behind its prompts."""
 
     def test(program: Path) -> None:
+        wanted = (Path(__file__).parent / "sessions" / f"{name}.txt").read_text()
         typed = [match[1] for row in wanted.splitlines() if (match := ANY_PROMPT.match(row))]
         text, ended = session(program, typed, *words)
         # without the last prompt, at which the input ends
-        shown = re.sub(r"[^\n]*> \n\Z", "", text)
-        same((shown, ended), (begin + wanted, status))
+        same((re.sub(r"[^\n]*> \n\Z", "", text), ended), (wanted, status))
 
     return test
-
-
-SHARING = """alice> create document rw
-Document 5: alice has rw over it.
-alice> write 5 We meet at noon.
-Written.
-alice> as bob
-bob> read 5
-Denied: bob has no r over 5.
-  alice has r over 5, and g over bob, so alice can grant it: `grant r 5 bob`.
-  Can it ever come about? `share r 5 bob` tells.
-bob> as alice
-alice> grant r 5 bob
-bob now has r over 5.
-alice> as bob
-bob> read 5
-We meet at noon.
-bob> look
-bob has g over carol (3); r over 5.
-bob> share r 5 carol
-Yes, in 1 step:
-  1. bob grants r over 5 to carol
-bob> share r 5 dave
-Never: whatever all of them do, dave can never have r over 5.
-bob> share r 5 alice
-alice has r over 5 already.
-bob> who r 5
-r over 5
-  now: alice, bob
-  could come to have it: carol
-  never: dave
-bob> take r 5 alice
-Denied: bob has no t over alice.
-  Nobody has t over alice.
-  Can it ever come about? `share t alice bob` tells.
-"""
-# Bob, whom no t or g joins to alice, can still make a subject, act for it and enrol erin; what he
-# drops is freed.
-NAMES = """alice> as bob
-bob> create subject tg helper
-Subject 5: bob has tg over it.
-bob> assume helper
-From now on the rights of helper count, until you `leave`.
-bob for helper> look
-helper has nothing.
-bob for helper> retire
-Denied: helper is no principal.
-bob for helper> leave
-Your own rights count again.
-bob> name 3 clara
-3 is called clara here.
-bob> remove t helper
-bob no longer has t over helper.
-bob> assume helper
-Denied: bob has no t over helper.
-  Nobody has t over helper.
-  Can it ever come about? `share t helper bob` tells.
-bob> enrol erin t
-erin is a principal, vertex 6; bob has t over it.
-bob> as erin
-erin> retire
-erin is a principal no longer; only `leave` and `bye` are left.
-6 (erin, retired)> look
-Denied: 6 (erin, retired) has retired.
-6 (erin, retired)> bye
-Bye.
-> as bob
-bob> graph
-  alice (1) has g over bob (2)
-  bob (2) has g over carol (3); g over helper (5); t over 6 (erin, retired)
-  carol (3) has nothing
-  dave (4) has nothing
-  helper (5) has nothing
-  6 (erin, retired) has nothing
-"""
-CONFUSED = """alice> steal 5
-There is no command steal. `help` lists them.
-alice> grant x 5 bob
-x: rights are letters, each once: r (read), w (write), t (take rights that it has), g (grant it rights)
-alice> grant r plan bob
-plan: no vertex has this name here; vertices have numbers, and `name NUMBER WORD` names one
-alice> read
-read OVER: read a document; needs r
-alice> create folder r
-folder: a vertex is a document or a subject
-alice> as nobody
-No principal has this name. `enrol NAME RIGHTS` makes one.
-alice> bye
-Bye.
-> read 5
-Nobody sits here: `as NAME` first.
-"""
-RAW = """alice> create document r
-  sent      {"kind":"document","op":"create","rights":"r"}
-  answered  {"ok":"created","vertex":5}
-Document 5: alice has r over it.
-alice> write 5 x
-  sent      {"op":"write","over":5,"text":"x"}
-  answered  {"denied":"write","from":1,"missing":"w","to":5}
-Denied: alice has no w over 5.
-  Nobody has w over 5.
-  Can it ever come about? `share w 5 alice` tells.
-alice> raw
-Lines are no longer shown.
-alice> look
-alice has g over bob (2); r over 5.
-"""
-RAW_BEGIN = BEGIN + '  sent      {"name":"alice","op":"hello"}\n'
-RAW_BEGIN += '  answered  {"ok":"hello","vertex":1}\n'
 
 
 def record_fits(program: Path) -> None:
@@ -282,10 +171,12 @@ def without_rt(_: Path) -> None:
 
 
 def tests() -> Tests:
-    yield "shell-shares", printed(SHARING)
-    yield "shell-names", printed(NAMES)
-    yield "shell-is-confused", printed(CONFUSED, status=1)
-    yield "shell-shows-lines", printed(RAW, "--raw", begin=RAW_BEGIN)
+    yield "shell-shares", printed("shares")
+    # Bob, whom no t or g joins to alice, can still make a subject, act for it and enrol erin; what
+    # he drops is freed.
+    yield "shell-names", printed("names")
+    yield "shell-is-confused", printed("is-confused", status=1)
+    yield "shell-shows-lines", printed("shows-lines", "--raw")
     yield "shell-keeps-a-run", record_fits
     yield "shell-in-a-terminal", in_a_terminal
     yield "shell-on-another-server", other_server
