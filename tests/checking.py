@@ -4,7 +4,9 @@ A test is a function of the program's path. It passes if it returns nothing (or 
 it raises (or returns False).
 """
 
+import functools
 import itertools
+import shutil
 from collections import Counter
 from collections.abc import Callable, Iterator, Sequence
 from pathlib import Path
@@ -62,3 +64,21 @@ def tell_counts(what: str, counts: Counter[str]) -> None:
 def skipped(what: str) -> None:
     """A test that cannot be made here passes, and says so."""
     print(f"  skipped: there is no {what}")
+
+
+# Tools without which some tests are skipped, and their commands.
+TOOLS = {"Chromium": "chromium", "Graphviz": "dot", "Valgrind": "valgrind"}
+
+
+def needing(*tools: str) -> Callable[[Test], Test]:
+    """Has a test skipped where one of these tools is not installed."""
+
+    def needing_them(test: Test) -> Test:
+        @functools.wraps(test)
+        def tried(program: Path) -> bool | None:
+            missing = [tool for tool in tools if not shutil.which(TOOLS[tool])]
+            return skipped(" and no ".join(missing)) if missing else test(program)
+
+        return tried
+
+    return needing_them

@@ -3,12 +3,11 @@ those of a model.
 """
 
 import resource
-import shutil
 import subprocess
 from pathlib import Path
 from random import Random
 
-from checking import Test, Tests, same, skipped
+from checking import Test, Tests, needing, same
 from faults import faults
 from faults.faults import BEFORE_ANY, one_of, tell_refused
 from film.pictures import picture as read
@@ -267,10 +266,9 @@ def memory_refused_to_last() -> Test:
     return memory_refused(CONFIG + HELLO + LONG, ends)
 
 
+@needing("Valgrind")
 def last_picture_is_cheap(program: Path) -> None:
     """A run and a picture take at most 1.2 times the instructions of the run's answers."""
-    if not shutil.which("valgrind"):
-        return skipped("Valgrind")
     given = CONFIG + HELLO + CREATE + SHADE + b'{"op":"remove","rights":"rw","over":2}\n'
     given += (b'{"op":"look","at":1}\n' + COLLECT + b"\n") * (LINES // 2)
     run, draw = instructions(program, given, "run"), instructions(program, given, "draw")

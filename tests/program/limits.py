@@ -10,14 +10,13 @@ docs/COLLECTOR.md.
 
 import contextlib
 import json
-import shutil
 import socket
 from collections.abc import Callable, Iterator
 from concurrent.futures import ThreadPoolExecutor
 from pathlib import Path
 from typing import Any
 
-from checking import Test, Tests, same, skipped
+from checking import Test, Tests, needing, same
 from faults.scripts import BYE, DONE, SHARED, alone, assume, caused, create, created, edges, enrol
 from faults.scripts import goal, hello, look, remove, shaded, swept, take, text, welcome, write
 from models.graph import SEATS
@@ -233,11 +232,10 @@ def answered(lines: Callable[[], Rows]) -> Test:
     return test
 
 
+@needing("Valgrind")
 def escapes_are_read_in_place(program: Path) -> None:
     """Escapes of a backslash and one letter are cheaper than the same bytes as numbers: by at least
     800 instructions for a line."""
-    if not shutil.which("valgrind"):
-        return skipped("Valgrind")
     opening = joined(b'{"principals":["alice"]}', hello(b"alice"), create(b"rw"), SHADE)
     texts = (rb"a \"b\"", rb"a \u0022b\u0022")
     writes = [joined(*[write(2, text)] * READS) for text in texts]
@@ -246,11 +244,10 @@ def escapes_are_read_in_place(program: Path) -> None:
     assert costs[1] - costs[0] >= 800 * READS, "they are found token by token"
 
 
+@needing("Valgrind")
 def long_text_is_not_looked_at(program: Path) -> None:
     """A read of the longest text is cheaper if that came without escapes: by at least a quarter of
     an instruction for each of its bytes."""
-    if not shutil.which("valgrind"):
-        return skipped("Valgrind")
     opening = joined(b'{"principals":["alice"]}', hello(b"alice"), create(b"rw"), SHADE)
     costs = []
     for last in (b"a", b"\\u0061"):

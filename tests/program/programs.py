@@ -7,10 +7,8 @@ import shlex
 import subprocess
 from pathlib import Path
 
-from checking import Test, Tests, same, skipped
+from checking import Test, Tests, same
 from running import ROOT, Word, asked, example, hear, ran, rest_of, started, tell, unreadable
-
-__all__ = ["refused", "skipped", "tests"]
 
 CONFIG = b'{"principals":["alice"]}\n'
 HELLO = b'{"name":"alice","op":"hello"}\n'
