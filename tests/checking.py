@@ -77,7 +77,9 @@ def needing(*tools: str) -> Callable[[Test], Test]:
         @functools.wraps(test)
         def tried(program: Path) -> bool | None:
             missing = [tool for tool in tools if not shutil.which(TOOLS[tool])]
-            return skipped(" and no ".join(missing)) if missing else test(program)
+            if not missing:
+                return test(program)
+            return skipped(" and no ".join(missing))
 
         return tried
 

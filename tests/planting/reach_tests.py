@@ -1,11 +1,10 @@
 """Tests of what a law reaches, on made-up definitions, lemmas and laws."""
 
 import tempfile
-from collections.abc import Callable, Iterator
 from pathlib import Path
 
+from checking import Tests, same
 from planting.reach import Reach, named_lines
-from planting.reading_tests import are_equal
 
 SPEC = """-- Numbers.
 use Rattle.std.specs.Prelude.{ℕ}
@@ -56,9 +55,9 @@ LAWS = {
 }
 
 
-def lines_have_their_definitions(_: Path) -> bool:
+def lines_have_their_definitions(_: Path) -> None:
     """Lines of a block with parameters too."""
-    return are_equal(named_lines(SPEC), NAMES)
+    same(named_lines(SPEC), NAMES)
 
 
 def made_up(folder: str) -> Reach:
@@ -69,30 +68,30 @@ def made_up(folder: str) -> Reach:
     return Reach(folder, "tiny", LAWS, ["one", "two"], "")
 
 
-def clauses_reach_by_their_lemmas(_: Path) -> bool:
+def clauses_reach_by_their_lemmas(_: Path) -> None:
     """A clause reaches what the lemmas of its answer name, and no others of their file."""
     with tempfile.TemporaryDirectory() as folder:
         clauses = made_up(folder).clauses
     above, last = {"above", "base"}, {"last"}
     found = [(it.function, it.name, it.reached) for it in clauses]
-    good = are_equal(found, [("one", "", above), ("two", "above", above), ("two", "last", last)])
+    same(found, [("one", "", above), ("two", "above", above), ("two", "last", last)])
     places = [sorted(it.places or []) for it in clauses]
     lines = [[at for file, at in it if file == "proofs/Lemmas.antt"] for it in places]
-    good = are_equal(lines, [[3, 4, 5, 6], [3, 4, 5, 6], [7, 8, 9]]) and good
+    same(lines, [[3, 4, 5, 6], [3, 4, 5, 6], [7, 8, 9]])
     answers = [[at for file, at in it if "Answers" in file] for it in places]
-    return are_equal(answers, [[2, 3], [3, 4, 5], [6, 7, 8]]) and good
+    same(answers, [[2, 3], [3, 4, 5], [6, 7, 8]])
 
 
-def a_bug_is_asked_of_the_nearest_clause(_: Path) -> bool:
+def a_bug_is_asked_of_the_nearest_clause(_: Path) -> None:
     """Of a law's before a function's, and of the fewest steps."""
     with tempfile.TemporaryDirectory() as folder:
         reach = made_up(folder)
     found = [reach.nearest({it}) for it in ("base", "last", "nothing")]
     names = [it and (it.function, it.name) for it in found]
-    return are_equal(names, [("one", ""), ("two", "last"), None])
+    same(names, [("one", ""), ("two", "last"), None])
 
 
-def changes_touch_definitions(_: Path) -> bool:
+def changes_touch_definitions(_: Path) -> None:
     """An import that only gains names is touched by itself; of any other change nothing is told."""
     use = "use Rattle.std.specs.Prelude.{ℕ"
     imports = [f"{use}, true", use[:-1], f"{use}, true as last"]
@@ -102,11 +101,10 @@ def changes_touch_definitions(_: Path) -> bool:
         reach = made_up(folder)
         found = [reach.touched({"specs/Numbers.antt": it}) for it in texts]
     place = {"specs/Numbers.antt:2"}
-    return are_equal(found, [{"above"}, place, set[str](), set[str](), set[str]()])
+    same(found, [{"above"}, place, set[str](), set[str](), set[str]()])
 
 
-def tests() -> Iterator[tuple[str, Callable[[Path], bool]]]:
-    """The tests with their names."""
+def tests() -> Tests:
     yield "lines-have-their-definitions", lines_have_their_definitions
     yield "clauses-reach-by-their-lemmas", clauses_reach_by_their_lemmas
     yield "a-bug-is-asked-of-the-nearest-clause", a_bug_is_asked_of_the_nearest_clause

@@ -2,15 +2,14 @@
 
 import os
 import shutil
-import subprocess
 import tempfile
-from collections.abc import Callable, Iterator
+from collections.abc import Callable
 from pathlib import Path
 
+from checking import Tests, same
 from planting import reading
 from planting.reading import Edit
-
-ROOT = Path(__file__).resolve().parent.parent.parent
+from running import ROOT, ran
 
 TEXT = """# Bugs of src/rules.rt.
 
@@ -100,35 +99,28 @@ def error_of(call: Callable[..., object], *given: object) -> str:
         return str(error)
 
 
-def are_equal(found: object, wanted: object) -> bool:
-    """Whether this was found; if not, both are printed."""
-    if found != wanted:
-        print(f"  wanted: {wanted}\n  found:  {found}")
-    return found == wanted
-
-
-def bugs_are_read(_: Path) -> bool:
+def bugs_are_read(_: Path) -> None:
     """Names, texts of one line and of several, an empty one, and other files."""
     read = reading.bugs_in(TEXT, "src/rules.rt")
-    return are_equal(list(read.items()), list(READ.items()))
+    same(list(read.items()), list(READ.items()))
 
 
-def misread_bugs_are_told(_: Path) -> bool:
+def misread_bugs_are_told(_: Path) -> None:
     """What is no bug is told, with its line."""
-    told = [error_of(reading.bugs_in, text, "src/lib.rt") for text, _ in MISREAD]
-    return are_equal(told, [wanted for _, wanted in MISREAD])
+    for text, wanted in MISREAD:
+        same(error_of(reading.bugs_in, text, "src/lib.rt"), wanted, text)
 
 
-def misplaced_bugs_are_told(_: Path) -> bool:
+def misplaced_bugs_are_told(_: Path) -> None:
     """A bug whose old text is not there exactly once is told; an edit sees those before it."""
     with tempfile.TemporaryDirectory() as folder:
         crate = Path(folder)
         (crate / "src").mkdir()
         (crate / "src" / "lib.rt").write_text("a b b\n")
-        told = [error_of(made, edits, crate) for edits, _ in MISPLACED]
+        for edits, wanted in MISPLACED:
+            same(error_of(made, edits, crate), wanted, str(edits))
         twice = made([("src/lib.rt", "a", "c\n"), ("src/lib.rt", "c\n b", "")], crate)
-    good = are_equal(told, [wanted for _, wanted in MISPLACED])
-    return are_equal(twice, {"src/lib.rt": " b\n"}) and good
+    same(twice, {"src/lib.rt": " b\n"})
 
 
 def made(edits: list[tuple[str, str, str]], crate: Path) -> dict[str, str]:
@@ -136,38 +128,31 @@ def made(edits: list[tuple[str, str, str]], crate: Path) -> dict[str, str]:
     return reading.edited([Edit(*it) for it in edits], crate)
 
 
-def strange_files_are_told(_: Path) -> bool:
+def strange_files_are_told(_: Path) -> None:
     """A file of another form, and a name in two files, are told with the file's name."""
-    good = True
     for files, wanted in STRANGE:
         with tempfile.TemporaryDirectory() as folder:
             for file in files:
                 path = Path(folder, "planted", file)
                 path.parent.mkdir(parents=True, exist_ok=True)
                 path.write_text("one\n- a\n+ b\n")
-            told = error_of(reading.bugs_of, Path(folder))
-        good = are_equal(told, f"{folder}/planted/{wanted}") and good
-    return good
+            same(error_of(reading.bugs_of, Path(folder)), f"{folder}/planted/{wanted}")
 
 
-def planted_bugs_have_their_places(_: Path) -> bool:
+def planted_bugs_have_their_places(_: Path) -> None:
     """Each bug of the repository is read and can be made, and there are some."""
-    wrong = reading.misplaced(ROOT)
-    print(*[f"  {it}" for it in wrong], sep="\n", end="\n" * bool(wrong))
-    return not wrong and any(ROOT.glob("crates/*/planted/**/*.bugs"))
+    same(reading.misplaced(ROOT), [])
+    assert any(ROOT.glob("crates/*/planted/**/*.bugs")), "there are none"
 
 
 def said_over(kit: Path, program: Path) -> tuple[int, list[str]]:
     """The status and the lines of errors of the runner over a kit, asked for an unknown crate."""
     environment = {**os.environ, "PATH": f"{kit}/bin:{os.environ['PATH']}"}
-    words = [str(program), "no-crate"]
-    ran = subprocess.run(
-        words, cwd=kit, env=environment, capture_output=True, text=True, timeout=60
-    )
-    return ran.returncode, ran.stderr.splitlines()
+    done = ran(program, "no-crate", cwd=kit, env=environment)
+    return done.returncode, done.stderr.decode().splitlines()
 
 
-def another_kit_is_told(program: Path) -> bool:
+def another_kit_is_told(program: Path) -> None:
     """Over a kit of another name there is a warning; one that lacks a name ends the run."""
     real = Path(os.path.realpath(shutil.which("rt") or ""))
     with tempfile.TemporaryDirectory() as folder:
@@ -181,20 +166,15 @@ def another_kit_is_told(program: Path) -> bool:
         text = (kit / "bin" / "rt").read_text(encoding="utf-8")
         renamed = text.replace("def must_fail(", "def renamed(")
         (kit / "bin" / "rt").write_text(renamed, encoding="utf-8")
-        lacking = said_over(kit, program)
-    good = "written for" in lines[0] and lines[0].endswith("this kit is another kit")
+        lacking, (line,) = said_over(kit, program)
+    same((status, lacking), (2, 1))
+    assert "written for" in lines[0] and lines[0].endswith("this kit is another kit"), lines
+    assert lines[-1].endswith("there is no crate no-crate"), lines
     wanted = "planted: this kit's rt has no must_fail: tests/planting/kit.py is written for "
-    is_one = len(lacking[1]) == 1 and lacking[1][0].startswith(wanted)
-    if not good or not lines[-1].endswith("there is no crate no-crate") or status != 2:
-        print("  a kit of another name:", status, *lines, sep="\n    ")
-        good = False
-    if not is_one or lacking[0] != 1:
-        print("  a kit that lacks a name:", *lacking, sep="\n    ")
-    return good and is_one and lacking[0] == 1
+    assert line.startswith(wanted), line
 
 
-def tests() -> Iterator[tuple[str, Callable[[Path], bool]]]:
-    """The tests with their names."""
+def tests() -> Tests:
     yield "bugs-are-read", bugs_are_read
     yield "misread-bugs-are-told", misread_bugs_are_told
     yield "misplaced-bugs-are-told", misplaced_bugs_are_told

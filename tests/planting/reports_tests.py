@@ -5,11 +5,10 @@ What they test is imported in each of them: it needs the toolchain, and tests/ru
 
 from __future__ import annotations
 
-from collections.abc import Callable, Iterator
 from pathlib import Path
 from typing import TYPE_CHECKING
 
-from planting.reading_tests import are_equal
+from checking import Tests, same
 
 if TYPE_CHECKING:
     from planting.reports import Report
@@ -79,57 +78,53 @@ def report(said: str, status: int = 1, holes: set[str] | None = None) -> Report:
     return Report("tiny", Ran(said, status, {}, 0), lines, SYMBOLS, holes or set())
 
 
-def waiting_functions_are_found(_: Path) -> bool:
+def waiting_functions_are_found(_: Path) -> None:
     """Those that only call an edited function or one another, or hand on an impl of such."""
     from planting.reports import waiting
 
     found = waiting(CALLS.split("\n"), {"tiny::echo_planted1", "tiny::Bell::times"})
     wanted = ("same", "twice", "rung", "both", "Horn::times", "loud")
-    return are_equal(found, {f"tiny::{it}" for it in wanted})
+    same(found, {f"tiny::{it}" for it in wanted})
 
 
-def copies_are_judged_by_a_report(_: Path) -> bool:
+def copies_are_judged_by_a_report(_: Path) -> None:
     """The faults of each copy, closures too, those that are proved, and a text that is not read."""
     found, lines = report(COPIES), COPIES.split("\n")
     faults = {"tiny::echo_planted1": [*lines[4:6], lines[7]], "tiny::echo_planted2": lines[1:2]}
-    good = are_equal({name: some for name, some in found.faults.items() if some}, faults)
-    good = are_equal(found.proved, {"tiny::echo_planted0"}) and good
-    return are_equal((found.unread, found.stray), ({("same", 3)}, [])) and good
+    same({name: some for name, some in found.faults.items() if some}, faults)
+    same(found.proved, {"tiny::echo_planted0"})
+    same((found.unread, found.stray), ({("same", 3)}, []))
 
 
-def a_stray_line_spoils_a_report(_: Path) -> bool:
+def a_stray_line_spoils_a_report(_: Path) -> None:
     """Whatever else is wrong is kept, also a check that has not ended well."""
     begin, end = COPIES.rsplit("\n", 1)
-    good = are_equal(
-        [report(f"{begin}\n{it}\n{end}").stray for it in STRAY], [[it] for it in STRAY]
-    )
-    good = are_equal(report(begin).stray, [begin.rsplit("\n", 1)[1]]) and good
-    return are_equal(report(COPIES, status=2).stray, [end]) and good
+    for line in STRAY:
+        same(report(f"{begin}\n{line}\n{end}").stray, [line])
+    same(report(begin).stray, [begin.rsplit("\n", 1)[1]])
+    same(report(COPIES, status=2).stray, [end])
 
 
-def a_call_behind_a_hole_is_no_excuse(_: Path) -> bool:
+def a_call_behind_a_hole_is_no_excuse(_: Path) -> None:
     """A goal that fails counts if what the copy calls has a hole for its proof, and not if that is
     refused too."""
     line = f"fn tiny::echo_planted1: no proof: {GOAL}; it calls `tiny::kept`, which is not proved"
     said = f"{line}\nonly=1 proved=0"
     found = [report(said, holes=holes).faults for holes in ({"tiny::kept"}, set[str]())]
-    return are_equal(found, [{"tiny::echo_planted1": [line]}, {"tiny::echo_planted1": []}])
+    same(found, [{"tiny::echo_planted1": [line]}, {"tiny::echo_planted1": []}])
 
 
-def a_refusal_is_clear(_: Path) -> bool:
+def a_refusal_is_clear(_: Path) -> None:
     """What refuses a bug in a definition, if it is no lost name and the check ended well."""
     from planting.checks import Ran
     from planting.reports import refusal
 
-    found = [
-        refusal(Ran("\n".join(said), status, {}, 0), {"specs/Echo.antt": ""}, own)
-        for said, status, own, _ in REFUSALS
-    ]
-    return are_equal(found, [wanted for *_, wanted in REFUSALS])
+    for said, status, own, wanted in REFUSALS:
+        done = Ran("\n".join(said), status, {}, 0)
+        same(refusal(done, {"specs/Echo.antt": ""}, own), wanted, str(said))
 
 
-def tests() -> Iterator[tuple[str, Callable[[Path], bool]]]:
-    """The tests with their names."""
+def tests() -> Tests:
     yield "waiting-functions-are-found", waiting_functions_are_found
     yield "copies-are-judged-by-a-report", copies_are_judged_by_a_report
     yield "a-stray-line-spoils-a-report", a_stray_line_spoils_a_report

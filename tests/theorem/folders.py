@@ -29,8 +29,7 @@ def misplaced(sources: Sources, page: Iterable[Place | Contract]) -> Iterator[st
                 yield f"{name} of {file}: {WRONG[folder]}"
 
 
-def are_in_their_folders(crates: Path) -> bool:
+def are_in_their_folders(crates: Path) -> None:
     """Each definition stands in its folder."""
     found = [*misplaced(Sources(crates), [it for one in PROMISES for it in one.begins])]
-    print(*(f"  {line}" for line in found), sep="\n", end="\n" if found else "")
-    return not found
+    assert not found, "\n    ".join(["in wrong folders", *found])

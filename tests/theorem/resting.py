@@ -11,13 +11,13 @@ from theorem.sources import Sources
 ROOT = Path(__file__).resolve().parents[2]
 
 
-def is_listed(crates: Path) -> bool:
+def is_listed(crates: Path) -> None:
     """The page has what the promises rest on, and says how much the headline needs."""
     page = (ROOT / "docs" / "THEOREM.md").read_text(encoding="utf-8")
     sources = Sources(crates)
     found = [*complaints(sources, page)]
     print(*(f"  {line}" for line in [*sizes(sources), *found]), sep="\n")
-    return not found
+    assert not found, "another list than the page's"
 
 
 def tests() -> Tests:
