@@ -168,8 +168,8 @@ impl Vault {
         self.cycle();
     }
 
-    /// What is held, as a graph of its own, and with it those of the retired that are held: what is left of the graph of
-    /// the history, if that is passed in.
+    /// What is held, as a graph of its own, and with it those of the retired that are held: what is left of the graph
+    /// of the history, if that is passed in.
     fn opening_anew(&self, graph: Option<Graph>) -> Result<Graph, AllocError>
         requires graph { IfSome graph (λ g. g ≡ graph_now self.now) }
         requires idle { phase self.now.store ≡ Idle }
