@@ -75,18 +75,6 @@ pub(crate) const TEXT: u32 = 1 << 9;
 
 pub(crate) const NAME: u32 = 1 << 10;
 
-const ACTOR: u32 = 1 << 11;
-
-const PRINCIPALS: u32 = 1 << 12;
-
-const EDGES: u32 = 1 << 13;
-
-const NEXT: u32 = 1 << 14;
-
-const SLOTS: u32 = 1 << 15;
-
-const CELLS: u32 = 1 << 16;
-
 impl Key {
     /// The key as lines have it, without quotes.
     #[inline(always)]
@@ -208,25 +196,7 @@ impl Key {
     pub(crate) fn place(self) -> usize
         ensures { result ≡ key_place self }
     {
-        match self {
-            Key::Op => 0,
-            Key::Seat => 1,
-            Key::Agent => 2,
-            Key::Over => 3,
-            Key::From => 4,
-            Key::To => 5,
-            Key::At => 6,
-            Key::Rights => 7,
-            Key::Kind => 8,
-            Key::Text => 9,
-            Key::Name => 10,
-            Key::Actor => 11,
-            Key::Principals => 12,
-            Key::Edges => 13,
-            Key::Next => 14,
-            Key::Slots => 15,
-            Key::Cells => 16,
-        }
+        self as usize
     }
 
     /// The key's bit in a set of keys.
@@ -234,25 +204,7 @@ impl Key {
     pub(crate) fn bit(self) -> u32
         ensures { result ≡ key_bit self }
     {
-        match self {
-            Key::Op => OP,
-            Key::Seat => SEAT,
-            Key::Agent => AGENT,
-            Key::Over => OVER,
-            Key::From => FROM,
-            Key::To => TO,
-            Key::At => AT,
-            Key::Rights => RIGHTS,
-            Key::Kind => KIND,
-            Key::Text => TEXT,
-            Key::Name => NAME,
-            Key::Actor => ACTOR,
-            Key::Principals => PRINCIPALS,
-            Key::Edges => EDGES,
-            Key::Next => NEXT,
-            Key::Slots => SLOTS,
-            Key::Cells => CELLS,
-        }
+        1 << self.place()
     }
 
     /// Whether the set has the key.

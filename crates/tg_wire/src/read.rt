@@ -6,6 +6,7 @@ ghost use Rattle.tg_wire.specs.Inner.Flat.{data_of};
 ghost use Rattle.tg_wire.specs.Promise.Ops.{command_form, op_form};
 ghost use Rattle.tg_wire.specs.Promise.Lines.{line_extras, line_in, line_of, step_in, step_of, op_in, rule_in};
 ghost use Rattle.tg_wire.specs.Inner.Lines.{line_of_json};
+ghost use Rattle.tg_wire.specs.Inner.Members.{flat_data};
 ghost use Rattle.tg_wire.specs.Promise.Reading.{Answers, fields_of, filled, guard, knows_all as knows_all_of, or_else};
 ghost use Rattle.tg_wire.specs.Inner.Reading.{AnswersField};
 ghost use Rattle.tg_wire.specs.declared.line.Line.TheVariants.{Act};
@@ -65,12 +66,13 @@ pub fn read_line_into(
     ensures answered { Answers (filled result line.new) (line_of bytes.now) }
     ensures short { result ≡ Err OutOfMemory → length bytes.now ≤ LONGEST_LINE }
 {
+    // Here the room for members is cleared only once.
+    let mut members = Members::new();
     begin(line);
     check_length(bytes)?;
     let (text, tokens) = room.texts().parts();
-    let mut members = Members::new();
     if read_flat(bytes, text, &mut members).is_some() {
-        return put_object(alloc, &LineObject::Flat(Flat::new(&members)), line);
+        return put_flat(alloc, &members, line);
     }
     put_other(tokens, alloc, bytes, line)
 }
@@ -107,9 +109,18 @@ fn put_other(
     let scratch = room.lend()?;
     let mut members = Members::new();
     if read_escaped(bytes, scratch, &mut members)?.is_some() {
-        return put_object(alloc, &LineObject::Flat(Flat::new(&members)), line);
+        return put_flat(alloc, &members, line);
     }
     put_object(alloc, &tree(alloc, bytes)?, line)
+}
+
+/// The same for the members of a flat object.
+#[inline(never)]
+fn put_flat(alloc: Global, members: &Members<'_>, line: &mut Line) -> Result<(), WireFault>
+    requires { line.old ≡ Act (Ask 0 Leave) }
+    ensures { Answers (filled result line.new) (line_in (flat_data members.now.list.items)) }
+{
+    put_object(alloc, &LineObject::Flat(Flat::new(members)), line)
 }
 
 // Where it is inlined, it is known which kind of object it reads.
