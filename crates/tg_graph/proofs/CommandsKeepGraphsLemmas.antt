@@ -1,5 +1,5 @@
 -- What an allowed command leaves: a graph, and each subject a subject.
-use Rattle.std.proofs.Common.{◌≡◌, ℕ, ◌<◌, ◌≤◌, [], Bool, true, false, cond, refl, sym, ap, ◌∙◌, Some, None, ◌==◌, arith}
+use Rattle.std.proofs.Common.{◌≡◌, ℕ, ◌<◌, ◌≤◌, [], Bool, true, false, cond, refl, sym, ap, subst, ◌∙◌, Some, None, ◌==◌, arith}
 use Rattle.std.specs.Option.{option_map}
 use Rattle.std.specs.Cmp.{nat_cmp_total, unsigned_tied}
 use Rattle.std.specs.FinMap as map
@@ -38,6 +38,10 @@ module _ (G : Protection) (x : ℕ) (g : IsGraph G) where
 
 pub graph_stays : (G : Protection) (x : ℕ) (c : Command) → IsGraph G → IsSubject G x → Allowed G x c → IsGraph (after G x c)
 graph_stays G x c g s a = let x_in = IsVertex-from_kind G x kind.Subject s in done_stays G x g x_in (terms x c).does (granted G x g x_in c a)
+
+-- what the effect of a subject's allowed command takes for granted
+pub granted_to : (G : Protection) (x : ℕ) (c : Command) (d : Does) (g : IsGraph G) (s : IsSubject G x) → Allowed G x c → d ≡ (terms x c).does → Granted G x g (IsVertex-from_kind G x kind.Subject s) d
+granted_to G x c d g s a is = let x_in = IsVertex-from_kind G x kind.Subject s in subst (Granted G x g x_in) (sym is) (granted G x g x_in c a)
 
 -- another vertex is as it was
 other_kind : (G : Protection) (v w : ℕ) (e : Vertex) → (w ≡ v → ⊥) → IsSubject G w → option_map (λ e. e.kind) (map.get (map.insert G.vertices v e) w) ≡ Some kind.Subject
