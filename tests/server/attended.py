@@ -600,17 +600,17 @@ def thread_refused_to_attendants(program: Path) -> None:
 
 def memory_refused_to_attendants(program: Path) -> None:
     """Each allocation of a server fails that has nowhere to listen: it ends by itself, and its
-    socket is gone."""
+    socket is gone, and so is the folder in which that was made."""
 
     def attempt(fault: Fault) -> Ran:
         with tempfile.TemporaryDirectory() as folder, faults.at_fault(fault) as (given, told):
             words = ("--listen", "here", *all_attend(folder))
             how: dict[str, Any] = {"env": given, "pass_fds": [told.fileno()], "given": CONFIG}
             found = ran(program, "serve", *words, **how)
-            left = b"a socket" if os.path.lexists(f"{folder}/control") else b"none"
+            left = ",".join(sorted(set(os.listdir(folder)) - {"steps"})).encode()
             return Ran(left, found.returncode, os.fstat(told.fileno()).st_size)
 
-    ends = {(b"none", 1): "not served", (b"none", 2): "command line refused"}
+    ends = {(b"", 1): "not served", (b"", 2): "command line refused"}
     faults.tell_refused(faults.memory_refused(attempt, faults.one_of(ends)))
 
 

@@ -22,8 +22,9 @@ pub fn control_socket<R: Files + Net>(
     clear(rt, path)?;
     for number in 0..NAMES {
         let folder = format!(in alloc; "{path}.{number}")?;
+        let first = format!(in alloc; "{path}.{number}/s")?;
         match DirBuilder::new().mode(0o700).create(rt, folder.as_str()) {
-            Ok(()) => return socket_in(rt, alloc, folder.as_str(), path),
+            Ok(()) => return socket_in(rt, folder.as_str(), first.as_str(), path),
             Err(error) if error.kind() == ErrorKind::AlreadyExists => {}
             Err(error) => return Err(error),
         }
@@ -49,16 +50,16 @@ fn clear<R: Files + Net>(rt: &R, path: &str) -> io::Result<()> {
     }
 }
 
-/// Makes the socket in the folder, gives it its name, and takes the folder away.
+/// Makes the socket under its first name, in the folder, gives it its own, and takes the folder away, also if that
+/// fails.
 fn socket_in<R: Files + Net>(
     rt: &R,
-    alloc: Global,
     folder: &str,
+    first: &str,
     path: &str,
 ) -> io::Result<UnixListener> {
-    let first = format!(in alloc; "{folder}/s")?;
-    let made = named_socket(rt, first.as_str(), path);
-    let _ = fs::remove_file(rt, first.as_str());
+    let made = named_socket(rt, first, path);
+    let _ = fs::remove_file(rt, first);
     let _ = fs::remove_dir(rt, folder);
     made
 }
