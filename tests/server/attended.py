@@ -26,7 +26,7 @@ from faults.faults import Fault, Ran
 from models.graph import Graph
 from models.reading import Event, line_of, read_config, read_step
 from running import Process, Word, asked, ran, started
-from server.servers import AGREED, ANY_PORT, BYE, CONFIG, CREATE, HELLO, LOOK, PARTED, READ
+from server.servers import AGREED, ANY_PORT, BYE, CONFIG, CREATE, CREATED, HELLO, LOOK, PARTED, READ
 from server.servers import SEEN, WELCOME, WRITE, Server, in_rounds, is_silent, read_all, read_line
 from server.servers import running
 from server.waiting import sends_all
@@ -176,6 +176,28 @@ def stop_while_nobody_reads(program: Path) -> None:
         took = time.monotonic() - began
     print(f"  {took:.1f} s")
     assert 1.0 <= took < 10.0, "not in time"
+
+
+def stop_while_a_client_reads_a_little(program: Path) -> None:
+    """A client that takes a megabyte of its answers five times a second is left too, though it
+    always takes some: all answers to the lines that have come would take it ten seconds or more."""
+    count = 4_000
+    with attended(program, "--workers", "1", config=LARGE) as server:
+        with server.connection() as one, contextlib.suppress(ConnectionError):
+            one.sendall(HELLO + CREATE * count)
+            read_some(one, len(WELCOME) + sum(len(CREATED % (3 + it)) for it in range(count)))
+            sends_all(one, LOOK * 1_000, 900)
+            wait_while_it_works(server)
+            one.settimeout(10.0)
+            began = time.monotonic()
+            same(server.ask(op="stop", within=0), {"ok": "stop"})
+            while server.process.poll() is None and time.monotonic() < began + 20.0:
+                read_some(one, 1 << 20)
+                time.sleep(0.2)
+        same(server.end(), AGREED)
+        took = time.monotonic() - began
+    print(f"  {took:.1f} s")
+    assert 1.0 <= took < 8.0, "not in time"
 
 
 def wait_while_it_works(server: Attended) -> None:
@@ -694,6 +716,7 @@ def tests() -> Tests:
     yield "stop-while-63-clients-work", stop_while_clients_work
     yield "stop-while-clients-are-silent", stop_while_silent
     yield "stop-while-a-client-takes-no-answers", stop_while_nobody_reads
+    yield "stop-while-a-client-reads-a-little", stop_while_a_client_reads_a_little
     yield "stop-without-a-descriptor", stop_without_a_descriptor
     yield "stop-twice", stop_twice
     yield "end-of-a-round", end_of_a_round

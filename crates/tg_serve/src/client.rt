@@ -212,7 +212,8 @@ fn end_of_lines(bytes: &[u8], lines: u64) -> usize
 
 /// What a client is answered. A write fails once the client has kept the server waiting for too long until it took its
 /// answers: all those that are written before more of its lines are read. Once its round takes no more lines, a write
-/// also fails as soon as the client has taken nothing for a tick, or for less if a signal ends the wait.
+/// also fails as soon as the client has taken nothing for a tick, or for less if a signal ends the wait, or has kept the
+/// server waiting for a second in all.
 #[derive(Drop)]
 pub(crate) struct ClientWriter<'a, D, C> {
     device: D,
@@ -242,6 +243,11 @@ impl<'a, D: Write, C: Clock> ClientWriter<'a, D, C> {
         }
     }
 
+    /// Whether the round takes no more lines.
+    fn takes_no_more_lines(&self) -> bool {
+        self.budget.is_spent() || self.seat.desk.course() == Course::Over
+    }
+
     /// Tells the desk what these answers are.
     fn tell(&mut self, bytes: &[u8]) {
         let desk = self.seat.desk;
@@ -262,6 +268,9 @@ impl<'a, D: Write, C: Clock> ClientWriter<'a, D, C> {
 impl<D: Write, C: Clock> Write for ClientWriter<'_, D, C> {
     fn write(&mut self, buf: &[u8]) -> io::Result<usize> {
         for _ in 0..u64::MAX {
+            if self.takes_no_more_lines() {
+                self.waiting.hurry();
+            }
             if self.waiting.is_over() {
                 return Err(too_long());
             }
@@ -273,7 +282,7 @@ impl<D: Write, C: Clock> Write for ClientWriter<'_, D, C> {
                 }
                 return Ok(count);
             }
-            if self.budget.is_spent() || self.seat.desk.course() == Course::Over {
+            if self.takes_no_more_lines() {
                 return Err(too_long());
             }
         }

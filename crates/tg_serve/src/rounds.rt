@@ -73,7 +73,8 @@ pub fn serve_on<R: Threads + Wait + Clock + Sync, W: Write>(
 /// A client that keeps the server waiting for longer than its patience is left: a read fails if a whole line takes
 /// longer, from the read in which its first byte is awaited to its line feed, and so does a write, if it takes longer
 /// until the client has taken all answers that are written before more of its lines are read. Once its round takes no
-/// more lines, a client is also left if it takes nothing of an answer for a quarter of a second.
+/// more lines, a client is also left if it takes nothing of an answer for a quarter of a second, or if the server has
+/// waited for it for a second in all.
 ///
 /// Once the history and the logs of a round take as much memory as they may, its talks end as at the end of their
 /// clients' lines, it takes no further connection, and it is settled. The next round follows, if the connections are

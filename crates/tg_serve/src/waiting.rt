@@ -8,11 +8,16 @@ use std::io::ErrorKind;
 use std::rt::Clock;
 use std::time::Duration;
 
+/// For how many milliseconds a client may keep the server waiting, in all, until it has taken its last answers.
+const LAST_ANSWERS: u64 = 1_000;
+
 /// The time that a client has kept the server waiting, for a line or until it took its answers, and how long it may.
 #[derive(Clone, Copy, Debug)]
 pub(crate) struct Waiting {
     patience: Option<Duration>,
     waited: Duration,
+    /// Whether this is the last wait.
+    is_last: bool,
 }
 
 /// What a call did that may wait.
@@ -30,12 +35,30 @@ impl Waiting {
         Waiting {
             patience: patience.map(Duration::from_secs),
             waited: Duration::ZERO,
+            is_last: false,
         }
     }
 
-    /// A new wait begins.
+    /// A new wait begins, unless this is the last one.
     pub(crate) fn end(&mut self) {
+        if !self.is_last {
+            self.waited = Duration::ZERO;
+        }
+    }
+
+    /// This wait is the last one, and may go on for a second, or for less if patience is over sooner.
+    pub(crate) fn hurry(&mut self) {
+        if self.is_last {
+            return;
+        }
+        let most = Duration::from_millis(LAST_ANSWERS);
+        let left = match self.patience {
+            Some(patience) => patience.saturating_sub(self.waited).min(most),
+            None => most,
+        };
+        self.patience = Some(left);
         self.waited = Duration::ZERO;
+        self.is_last = true;
     }
 
     /// Whether the client has kept the server waiting for as long as it may.

@@ -445,6 +445,34 @@ fn answers_end_with_their_round(rt: HostRuntime) {
     assert!(rt; writes_at(SLOW, None, false, &budget, &desk) == (0, true));
 }
 
+/// A little of the answers is taken within each tick.
+const TRICKLED: &[Step] = &[
+    Step::Moves(200, b"01"),
+    Step::Moves(200, b"23"),
+    Step::Moves(200, b"45"),
+    Step::Moves(200, b"67"),
+    Step::Moves(200, b"89"),
+    Step::Moves(200, b"ab"),
+    Step::Moves(200, b"cd"),
+];
+
+/// A client that takes its answers bit by bit has a second for all of them once its round takes no more lines, flushes
+/// or not, and no more than its patience.
+#[test]
+fn last_answers_have_a_second(rt: HostRuntime) {
+    let (clock, desk) = (Hands::new(), Desk::unattended(rt.alloc()));
+    let budget = Budget::new(None, 1);
+    desk.end_round(&clock, 0);
+    desk.advance(&clock);
+    assert!(rt; writes_at(TRICKLED, None, false, &budget, &desk) == (14, false));
+    clock.move_on(1_000);
+    desk.advance(&clock);
+    assert!(rt; writes_at(TRICKLED, None, false, &budget, &desk) == (10, true));
+    assert!(rt; writes_at(TRICKLED, None, true, &budget, &desk) == (10, true));
+    assert!(rt; writes_at(TRICKLED, Some(2), false, &budget, &desk) == (10, true));
+    assert!(rt; writes_at(STUCK, Some(1), false, &budget, &desk) == (12, true));
+}
+
 /// The same if the memory of the round is used up.
 #[test]
 fn answers_end_once_no_memory_is_left(rt: HostRuntime) {
@@ -454,4 +482,5 @@ fn answers_end_once_no_memory_is_left(rt: HostRuntime) {
     assert!(rt; writes_at(STUCK, None, false, &budget, &desk) == (28, false));
     assert!(rt; budget.keep(&Command::leave(), &Reply::Done));
     assert!(rt; writes_at(STUCK, None, false, &budget, &desk) == (12, true));
+    assert!(rt; writes_at(TRICKLED, None, false, &budget, &desk) == (10, true));
 }
