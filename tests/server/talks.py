@@ -231,7 +231,7 @@ def lines_up_to_the_limit(program: Path) -> None:
 # requests of STUN and TURN (RFC 8489, 5 and 18.2; RFC 8656).
 BODY = HELLO + RETIRE
 HEAD = b" / HTTP/1.1\r\nHost: 127.0.0.1\r\nContent-Length: %d\r\n\r\n" % len(BODY)
-METHODS = b"GET POST PUT HEAD OPTIONS DELETE PATCH CONNECT TRACE PRI".split()
+METHODS = b"GET POST PUT HEAD OPTIONS DELETE PATCH CONNECT TRACE PRI a-method-of-its-own".split()
 OTHERS = [method + HEAD for method in METHODS]
 OTHERS += [b"\x16\x03\x01\x02\n", b"\x00\x01\x00\x08\n", b"\x00\x03\x00\x08\n"]
 
@@ -261,7 +261,7 @@ def other_protocols(program: Path) -> None:
 def no_other_protocol(program: Path) -> None:
     """Any other first line that is no JSON is answered as such, and those behind it are taken; so
     is a line like a request of HTTP that is not the first one."""
-    firsts = [b"no json\n", b"POST\n", b"get /\n", b" GET /\n", b"\nGET /\n", b"\x16\n"]
+    firsts = [b"no json\n", b"POST\n", b"get me /\n", b" GET /\n", b"\nGET /\n", b"\x16\n"]
     for first in firsts:
         count = first.count(b"\n")
         with served(program, 1, 1) as server:

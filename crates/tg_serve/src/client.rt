@@ -7,6 +7,7 @@ use crate::beginning::Beginning;
 use crate::budget::{Budget, SetAside};
 use crate::desk::{Course, Desk};
 use crate::door::tick;
+use crate::request::Likeness;
 use crate::tally::Tally;
 use crate::waiting::{Waited, Waiting, too_long};
 use std::alloc::{AllocError, Global};
@@ -43,6 +44,7 @@ pub(crate) struct ClientReader<'a, D, C> {
     seat: Seat<'a>,
     waiting: Waiting,
     beginning: Beginning,
+    likeness: Likeness,
     /// What was read and not yet handed out, behind what was.
     read: Vec<u8>,
     handed_out: usize,
@@ -60,6 +62,7 @@ impl<D: Drop, C> Drop for ClientReader<'_, D, C> {
             seat: _,
             waiting: _,
             beginning: _,
+            likeness: _,
             read,
             handed_out: _,
             set_aside,
@@ -90,6 +93,7 @@ impl<'a, D: Read + Drop, C: Clock> ClientReader<'a, D, C> {
             seat,
             waiting: Waiting::new(patience),
             beginning: Beginning::new(),
+            likeness: Likeness::new(),
             read,
             handed_out: 0,
             set_aside: 0,
@@ -121,7 +125,7 @@ impl<'a, D: Read + Drop, C: Clock> ClientReader<'a, D, C> {
                 }
                 continue;
             };
-            if self.beginning.note(&buf[..count]) {
+            if self.beginning.note(&buf[..count]) || self.likeness.note(&buf[..count]) {
                 return Err(io::Error::from(ErrorKind::InvalidData));
             }
             if buf[..count].contains(&b'\n') {

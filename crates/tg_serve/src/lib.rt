@@ -13,6 +13,7 @@ mod listening;
 mod operating;
 mod pace;
 mod platform;
+mod request;
 mod rounds;
 mod serve;
 mod socket;

@@ -220,6 +220,15 @@ const OTHERS: &[(&[Step], &[usize])] = &[
         ],
         &[3, 4],
     ),
+    (&[Step::Moves(0, b"Foo-1 /x\n{}\n")], &[]),
+    (
+        &[
+            Step::Moves(0, b"a.method"),
+            Step::Moves(0, b" "),
+            Step::Moves(0, b"/\n{}\n"),
+        ],
+        &[8, 1],
+    ),
     (&[Step::Moves(0, b"\x16\x03\x01\n{}\n")], &[]),
     (
         &[Step::Moves(0, b"\x16"), Step::Moves(0, b"\x03\n{}\n")],
@@ -247,7 +256,16 @@ const OWN: &[(&[Step], &[usize])] = &[
         &[Step::Moves(0, b"POST"), Step::Moves(0, b"\n{}\n")],
         &[4, 4],
     ),
-    (&[Step::Moves(0, b"get /\n")], &[6]),
+    (&[Step::Moves(0, b"get me /\n")], &[9]),
+    (&[Step::Moves(0, b"get\n/\n")], &[6]),
+    (
+        &[
+            Step::Moves(0, b"get"),
+            Step::Moves(0, b"  "),
+            Step::Moves(0, b"/\n"),
+        ],
+        &[3, 2, 2],
+    ),
     (&[Step::Moves(0, b" GET /\n")], &[7]),
     (&[Step::Moves(0, b"\nGET /\n")], &[7]),
     (&[Step::Moves(0, b"\x16\n\x03\n")], &[4]),
