@@ -410,10 +410,11 @@ impl Desk {
         );
     }
 
-    /// Keeps the history of a round that was settled until it is taken.
+    /// Keeps the history of a round that was settled until it is taken. Once one is lost for want of memory no further
+    /// one is kept, so that those that are taken have no gap.
     pub(crate) fn keep_history<R: Wait>(&self, rt: &R, history: Vec<Entry>) {
         let mut histories = self.histories.lock(rt);
-        if histories.push(history).is_err() {
+        if self.lacks_history() || histories.push(history).is_err() {
             self.lacks_history.store(true, Ordering::SeqCst);
         }
     }

@@ -100,14 +100,14 @@ pub(crate) fn keep_history<N: Wait + Clock, H: Files + Eprint>(
         for history in desk.take_histories(rt, alloc) {
             is_whole = is_whole && append_or_say(host, alloc, path, &history);
         }
+        if is_whole && desk.lacks_history() {
+            let _ = eprintln!(host; "tgdoc: {path}: no memory for the history of a round");
+            is_whole = false;
+        }
         if is_last {
             break;
         }
         thread::sleep(rt, Duration::from_millis(REST));
-    }
-    if desk.lacks_history() {
-        let _ = eprintln!(host; "tgdoc: {path}: no memory for the history of a round");
-        return false;
     }
     is_whole
 }

@@ -81,6 +81,20 @@ fn growth_refused_in_a_request(rt: HostRuntime) {
     assert!(rt; found == Ok(Request::Stop { within: 7 }));
 }
 
+/// Once a history is lost for want of memory, no later one is kept.
+#[test]
+fn growth_refused_in_kept_histories(rt: HostRuntime) {
+    let desk = Desk::unattended(rt.alloc());
+    desk.keep_history(&rt, Vec::new(rt.alloc()));
+    let mut kept = 1;
+    if desk.lacks_history() {
+        let _ = rt.println("no memory");
+        desk.keep_history(&rt, Vec::new(rt.alloc()));
+        kept = 0;
+    }
+    assert!(rt; desk.take_histories(&rt, rt.alloc()).len() == kept);
+}
+
 /// Lines that are read without memory or, if nothing is said of them, left to be read with it.
 const PLAIN: &[(&[u8], Option<Request>)] = &[
     (b"{\"op\":\"status\"}", Some(Request::Status)),
