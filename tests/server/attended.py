@@ -437,6 +437,18 @@ def errors_of(server: Attended, sent: bytes) -> int:
     return sum(line.startswith(b'{"error"') for line in answers.splitlines())
 
 
+def end_without_an_attendant(program: Path) -> None:
+    """A client at the socket that takes no answers does not hold up the end of the server."""
+    with attended(program) as server, server.attendant() as one:
+        server.greet()
+        began = time.monotonic()
+        one.sendall(b'{"op":"stop","within":0}\n' + b'{"op":"status"}\n' * 5_000)
+        same(server.end(), AGREED)
+        took = time.monotonic() - began
+    print(f"  {took:.1f} s")
+    assert took < 4.0, "not in time"
+
+
 def slow_at_the_socket(program: Path) -> None:
     """A silent client at the socket is left after five seconds, and the next one answered."""
     with attended(program) as server, server.attendant() as one:
@@ -729,6 +741,7 @@ def tests() -> Tests:
     yield "another-user-is-refused", another_user
     yield "hostile-lines-at-the-control-socket", hostile_lines
     yield "slow-at-the-control-socket", slow_at_the_socket
+    yield "end-while-no-answer-is-taken-at-the-control-socket", end_without_an_attendant
     yield "log-tells", log_tells
     yield "log-that-cannot-be-written", log_that_cannot_be_written
     yield "history-replays", history_replays

@@ -118,8 +118,8 @@ fn answer_lines<C: Clock>(
             continue;
         }
         let was_sent = match answer_to(clock, alloc, desk, serving, come) {
-            Answer::Fixed(text) => send(clock, stream, text.as_bytes(), end),
-            Answer::Made(text) => send(clock, stream, text.as_bytes(), end),
+            Answer::Fixed(text) => send(clock, stream, desk, text.as_bytes(), end),
+            Answer::Made(text) => send(clock, stream, desk, text.as_bytes(), end),
         };
         come.clear();
         if !was_sent {
@@ -129,8 +129,9 @@ fn answer_lines<C: Clock>(
     true
 }
 
-/// Sends all bytes before this time; returns whether that was done.
-fn send<C: Clock>(clock: &C, stream: &UnixStream, bytes: &[u8], end: u64) -> bool {
+/// Sends all bytes before this time, or before the client has taken none for a tick and the server has ended; returns
+/// whether that was done.
+fn send<C: Clock>(clock: &C, stream: &UnixStream, desk: &Desk, bytes: &[u8], end: u64) -> bool {
     let mut sent = 0usize;
     for _ in 0..u64::MAX {
         let rest = bytes.get(sent..).unwrap_or(&[]);
@@ -144,7 +145,7 @@ fn send<C: Clock>(clock: &C, stream: &UnixStream, bytes: &[u8], end: u64) -> boo
         match device.write(rest) {
             Ok(0) => return false,
             Ok(count) => sent = sent.saturating_add(count),
-            Err(error) if is_tick(&error) => {}
+            Err(error) if is_tick(&error) && !desk.has_ended() => {}
             Err(_) => return false,
         }
     }
