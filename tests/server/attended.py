@@ -611,6 +611,17 @@ def watching_ends_with_an_error(program: Path) -> None:
         same((found.stderr, found.returncode), (b"", 1))
 
 
+def asked_in_vain(program: Path) -> None:
+    """A server that does not answer is waited for for ten seconds, and standard error says so."""
+    with answering() as path:
+        began = time.monotonic()
+        found = ran(program, "control", path, "status")
+        took = time.monotonic() - began
+        said = f"tgdoc: {path}: no answer within 10 seconds\n".encode()
+    same((found.stdout, found.stderr, found.returncode), (b"", said, 1))
+    assert 9.0 < took < 20.0, f"after {took:.1f} s"
+
+
 def all_attend(folder: str) -> tuple[str, ...]:
     """The words of a server at which everybody attends, who have their files in this folder."""
     return ("--control", f"{folder}/control", "--log", "--history", f"{folder}/steps")
@@ -748,6 +759,7 @@ def tests() -> Tests:
     yield "history-that-cannot-be-written", history_that_cannot_be_written
     yield "no-server-without-an-end-or-a-socket", without_an_end
     yield "control-subcommand", subcommand
+    yield "control-without-an-answer", asked_in_vain
     yield "watching-ends-with-an-error", watching_ends_with_an_error
     yield "memory-refused-to-the-control-subcommand", memory_refused_to_ask
     yield "thread-refused-to-attendants", thread_refused_to_attendants

@@ -75,11 +75,20 @@ fn answer_or_say<N: Net + Eprint>(
 ) -> Option<Vec<u8>> {
     match answer_of(rt, alloc, path, line) {
         Ok(answer) => Some(answer),
+        Err(error) if is_late(&error) => {
+            let _ = eprintln!(rt; "tgdoc: {path}: no answer within {PATIENCE} seconds");
+            None
+        }
         Err(error) => {
             let _ = eprintln!(rt; "tgdoc: {path}: {error}");
             None
         }
     }
+}
+
+/// Whether a call failed since it was waited for too long.
+fn is_late(error: &io::Error) -> bool {
+    matches!(error.kind(), ErrorKind::WouldBlock | ErrorKind::TimedOut)
 }
 
 fn answer_of<N: Net>(rt: &N, alloc: Global, path: &str, line: &str) -> io::Result<Vec<u8>> {
