@@ -55,6 +55,12 @@ def passes(test: Test, program: Path) -> bool:
         return False
 
 
+def named(*tests: Test) -> Tests:
+    """Tests by the names of their functions, in kebab case."""
+    for test in tests:
+        yield test.__name__.replace("_", "-"), test
+
+
 def tell_counts(what: str, counts: Counter[str]) -> None:
     """Prints how often each kind was seen."""
     kinds = ", ".join(f"{number} {kind}" for kind, number in sorted(counts.items())) or "none"
@@ -79,7 +85,8 @@ def needing(*tools: str) -> Callable[[Test], Test]:
             missing = [tool for tool in tools if not shutil.which(TOOLS[tool])]
             if not missing:
                 return test(program)
-            return skipped(" and no ".join(missing))
+            skipped(" and no ".join(missing))
+            return None
 
         return tried
 

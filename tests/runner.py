@@ -6,7 +6,7 @@ import sys
 import tempfile
 from pathlib import Path
 
-from checking import Tests, passes, same
+from checking import Tests, named, passes, same
 from planting import reach_tests, reading_tests, reports_tests
 from planting.reading import unpacked
 from running import ROOT, ran
@@ -70,9 +70,8 @@ def tests() -> Tests:
     yield from reading_tests.tests()
     yield from reports_tests.tests()
     yield from reach_tests.tests()
-    yield "edits-of-a-crate-are-told-apart", edits_of_a_crate_are_told_apart
-    yield "bugs-without-time-are-counted", bugs_without_time_are_counted
-    yield "names-pick-tests", names_pick_tests
+    yield from named(edits_of_a_crate_are_told_apart, bugs_without_time_are_counted)
+    yield from named(names_pick_tests)
 
 
 if __name__ == "__main__":

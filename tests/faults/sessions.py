@@ -2,7 +2,7 @@
 
 from pathlib import Path
 
-from checking import Tests, same
+from checking import Tests, named, same
 from faults import faults
 from faults.faults import Fault
 
@@ -31,5 +31,4 @@ def threads_refused(program: Path) -> None:
 
 
 def tests() -> Tests:
-    yield "allocations-refused", allocations_refused
-    yield "threads-refused", threads_refused
+    yield from named(allocations_refused, threads_refused)

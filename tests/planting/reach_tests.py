@@ -3,7 +3,7 @@
 import tempfile
 from pathlib import Path
 
-from checking import Tests, same
+from checking import Tests, named, same
 from planting.reach import Reach, named_lines
 
 SPEC = """-- Numbers.
@@ -105,7 +105,5 @@ def changes_touch_definitions(_: Path) -> None:
 
 
 def tests() -> Tests:
-    yield "lines-have-their-definitions", lines_have_their_definitions
-    yield "clauses-reach-by-their-lemmas", clauses_reach_by_their_lemmas
-    yield "a-bug-is-asked-of-the-nearest-clause", a_bug_is_asked_of_the_nearest_clause
-    yield "changes-touch-definitions", changes_touch_definitions
+    yield from named(lines_have_their_definitions, clauses_reach_by_their_lemmas)
+    yield from named(a_bug_is_asked_of_the_nearest_clause, changes_touch_definitions)

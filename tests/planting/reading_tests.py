@@ -6,7 +6,7 @@ import tempfile
 from collections.abc import Callable
 from pathlib import Path
 
-from checking import Tests, same
+from checking import Tests, named, same
 from planting import reading
 from planting.reading import Edit
 from running import ROOT, ran
@@ -175,9 +175,5 @@ def another_kit_is_told(program: Path) -> None:
 
 
 def tests() -> Tests:
-    yield "bugs-are-read", bugs_are_read
-    yield "misread-bugs-are-told", misread_bugs_are_told
-    yield "misplaced-bugs-are-told", misplaced_bugs_are_told
-    yield "strange-files-are-told", strange_files_are_told
-    yield "planted-bugs-have-their-places", planted_bugs_have_their_places
-    yield "another-kit-is-told", another_kit_is_told
+    yield from named(bugs_are_read, misread_bugs_are_told, misplaced_bugs_are_told)
+    yield from named(strange_files_are_told, planted_bugs_have_their_places, another_kit_is_told)

@@ -8,7 +8,7 @@ from __future__ import annotations
 from pathlib import Path
 from typing import TYPE_CHECKING
 
-from checking import Tests, same
+from checking import Tests, named, same
 
 if TYPE_CHECKING:
     from planting.reports import Report
@@ -125,8 +125,6 @@ def a_refusal_is_clear(_: Path) -> None:
 
 
 def tests() -> Tests:
-    yield "waiting-functions-are-found", waiting_functions_are_found
-    yield "copies-are-judged-by-a-report", copies_are_judged_by_a_report
-    yield "a-stray-line-spoils-a-report", a_stray_line_spoils_a_report
-    yield "a-call-behind-a-hole-is-no-excuse", a_call_behind_a_hole_is_no_excuse
-    yield "a-refusal-is-clear", a_refusal_is_clear
+    yield from named(waiting_functions_are_found, copies_are_judged_by_a_report)
+    yield from named(a_stray_line_spoils_a_report, a_call_behind_a_hole_is_no_excuse)
+    yield from named(a_refusal_is_clear)

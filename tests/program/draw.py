@@ -7,7 +7,7 @@ import subprocess
 from pathlib import Path
 from random import Random
 
-from checking import Test, Tests, needing, same
+from checking import Test, Tests, named, needing, same
 from faults import faults
 from faults.faults import BEFORE_ANY, one_of, tell_refused
 from film.pictures import picture as read
@@ -300,6 +300,4 @@ def tests() -> Tests:
         yield from group()
     yield "memory-refused-to-the-last-picture", memory_refused_to_last()
     yield "memory-refused-to-each-picture", memory_refused_to_each()
-    yield "random-pictures", random_pictures
-    yield "last-picture-is-cheap", last_picture_is_cheap
-    yield "all-slots-are-drawn-at-once", all_slots_are_drawn_at_once
+    yield from named(random_pictures, last_picture_is_cheap, all_slots_are_drawn_at_once)

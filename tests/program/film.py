@@ -14,7 +14,7 @@ from html import unescape
 from pathlib import Path
 from typing import Any
 
-from checking import Test, Tests, needing, same
+from checking import Test, Tests, named, needing, same
 from film.frames import Frame, frames_of, told
 from running import ROOT, ran
 
@@ -128,7 +128,7 @@ def in_a_browser(name: str) -> Test:
 
 
 @needing("Graphviz")
-def cut(program: Path) -> None:
+def film_of_a_part(program: Path) -> None:
     """Without the collector no colours, targets and steps of it are shown, and what is condemned is
     gone; over one vertex, only what leads to it."""
     plain = described(page_of(program, story("collector"), "--plain")[1])
@@ -284,7 +284,7 @@ def wide(lines: Callable[[], Lines], count: int, *words: str, **how: Any) -> Tes
 
 
 @needing("Graphviz")
-def ranks_in_rows(program: Path) -> None:
+def film_with_ranks_in_rows(program: Path) -> None:
     """The 60 documents of a hub are one rank: between its rows there is less room than a vertex
     takes, and than above it."""
     page = film_of(program, hub(), "--frame", "121")[1]
@@ -296,7 +296,7 @@ def ranks_in_rows(program: Path) -> None:
 
 
 @needing("Graphviz", "Chromium")
-def breadth_in_a_browser(program: Path) -> None:
+def film_of_seventy_in_a_browser(program: Path) -> None:
     """A window of 1,600 pixels shows the whole breadth of a wide film, no smaller than letters may
     get; one of 1,200 too, with the words below; a smaller one shows the part in which the first
     vertex is, and of the next picture the same part as of this one."""
@@ -308,7 +308,7 @@ def breadth_in_a_browser(program: Path) -> None:
         assert float(scale) >= 0.7, f"the letters are too small: {scale}"
 
 
-def without_graphviz(_: Path) -> None:
+def no_film_without_graphviz(_: Path) -> None:
     """Without Graphviz the film says so, and writes nothing."""
     done = ran(Path(sys.executable), FILM / "film", env={"PATH": "/nowhere"})
     same((done.returncode, done.stdout), (1, b""))
@@ -319,12 +319,11 @@ def tests() -> Tests:
     for name in STORIES:
         yield f"film-of-{name}", kept(name)
         yield f"film-of-{name}-in-a-browser", in_a_browser(name)
-    yield "film-of-a-part", cut
+    yield from named(film_of_a_part)
     yield "film-of-seventy-vertices", wide(company, 70)
     yield "film-of-seventy-in-all-directions", wide(crossed, 70)
     over = ("--plain", "--over", "58")
     yield "film-over-one-of-seventy", wide(company, 58, *over, is_plain=True, over=58)
     yield "film-of-a-hub", wide(hub, 61, "--plain", is_plain=True)
-    yield "film-with-ranks-in-rows", ranks_in_rows
-    yield "film-of-seventy-in-a-browser", breadth_in_a_browser
-    yield "no-film-without-graphviz", without_graphviz
+    yield from named(film_with_ranks_in_rows, film_of_seventy_in_a_browser)
+    yield from named(no_film_without_graphviz)

@@ -16,7 +16,7 @@ from concurrent.futures import ThreadPoolExecutor
 from pathlib import Path
 from typing import Any
 
-from checking import Test, Tests, needing, same
+from checking import Test, Tests, named, needing, same
 from faults.scripts import BYE, DONE, SHARED, alone, assume, caused, create, created, edges, enrol
 from faults.scripts import goal, hello, look, remove, shaded, swept, take, text, welcome, write
 from models.graph import SEATS
@@ -261,9 +261,6 @@ def tests() -> Tests:
     yield "a-name-of-100000-principals", answered(lines_of_one_name)
     yield "every-slot-of-a-principal-that-retired", answered(lines_of_all_slots)
     yield "each-seat-acts-for-a-subject", answered(lines_of_64_agents)
-    yield "long-text-is-not-looked-at", long_text_is_not_looked_at
-    yield "escapes-are-read-in-place", escapes_are_read_in_place
+    yield from named(long_text_is_not_looked_at, escapes_are_read_in_place)
     yield "run-at-every-limit", answered(lines_of_run)
-    yield "talks-at-every-limit", talks_at_every_limit
-    yield "a-full-vault-is-rebased", a_full_vault_is_rebased
-    yield "audit-at-every-limit", audit_at_every_limit
+    yield from named(talks_at_every_limit, a_full_vault_is_rebased, audit_at_every_limit)

@@ -18,7 +18,7 @@ from pathlib import Path
 from typing import Any
 
 import builds
-from checking import Test, Tests, needing, same
+from checking import Test, Tests, named, needing, same
 from playground.service import MOST_BYTES, MOST_LINES, Service, opened
 from running import ROOT, SECONDS, asked, hear, joined, started
 
@@ -97,7 +97,7 @@ WHO = {"lines": GROUP, "to": 6, "rights": "r"}
 TOLD_WHO = (200, {"have": [1, 2, 5], "could": [3], "never": [4]})
 
 
-def answers(program: Path) -> None:
+def playground_answers(program: Path) -> None:
     """What the server answers is what the program does about the lines."""
     given = joined(*[row.encode() for row in GROUP])
     ran, drew = asked(program, "run", given=given), asked(program, "draw", "--each", given=given)
@@ -115,7 +115,7 @@ def answers(program: Path) -> None:
             same(answer, (200, {"steps": [], "verdict": verdict}))
 
 
-def refusals(program: Path) -> None:
+def playground_refuses(program: Path) -> None:
     """Requests that no page of the server's own makes, and questions that are too long or none."""
     fine = {"lines": GROUP[:1]}
     ends: dict[str, Any] = {**fine, "from": 1, "to": 2, "rights": "r"}
@@ -157,7 +157,7 @@ esac
 """
 
 
-def asked_at_once(program: Path) -> None:
+def playground_asks_at_once(program: Path) -> None:
     """Of a program that can be asked for all vertices at once, that one question is asked."""
     with tempfile.TemporaryDirectory() as folder:
         other = Path(folder) / "tgdoc"
@@ -199,7 +199,7 @@ def in_a_browser(size: str) -> Test:
     return test
 
 
-def starts(program: Path) -> None:
+def playground_starts(program: Path) -> None:
     """The command prints the address of its page, which is there; Ctrl-C ends it in silence."""
     command = ROOT / "examples" / "playground" / "playground"
     how: dict[str, Any] = {"env": {**os.environ, "TGDOC": str(program)}, "stderr": subprocess.PIPE}
@@ -214,9 +214,7 @@ def starts(program: Path) -> None:
 
 
 def tests() -> Tests:
-    yield "playground-starts", starts
-    yield "playground-answers", answers
-    yield "playground-asks-at-once", asked_at_once
-    yield "playground-refuses", refusals
+    yield from named(playground_starts, playground_answers, playground_asks_at_once)
+    yield from named(playground_refuses)
     yield "playground-in-a-browser", in_a_browser("1600,1000")
     yield "playground-in-a-narrow-browser", in_a_browser("500,900")

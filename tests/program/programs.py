@@ -7,7 +7,7 @@ import shlex
 import subprocess
 from pathlib import Path
 
-from checking import Test, Tests, same
+from checking import Test, Tests, named, same
 from running import ROOT, Word, asked, example, hear, ran, rest_of, started, tell, unreadable
 
 CONFIG = b'{"principals":["alice"]}\n'
@@ -71,7 +71,7 @@ def no_verdict_before_the_end(program: Path) -> None:
         same(rest_of(process), (SHARED, 0))
 
 
-def refused_line_is_answered_at_once(program: Path) -> None:
+def refused_line_of_an_audit_is_answered_at_once(program: Path) -> None:
     """A line that is refused ends an audit though its input goes on."""
     with started(program, "audit") as process:
         tell(process, CONFIG + b"{}\n")
@@ -161,7 +161,7 @@ def demo_of(program: Path, *words: str) -> str:
     return found.stdout
 
 
-def readme_example(program: Path) -> None:
+def demo_of_the_readme(program: Path) -> None:
     """examples/README.md shows what `make demo` prints, from the line on that opens a graph."""
     rows = (ROOT / "examples" / "README.md").read_text().splitlines()
     opens = itertools.dropwhile(lambda row: not row.startswith('    {"principals"'), rows)
@@ -210,7 +210,7 @@ def man_page(program: Path) -> None:
 
 def tests_of_pipes() -> Tests:
     """When a program reads and writes, and what it does if it cannot."""
-    yield "answers-come-at-once", answers_come_at_once
+    yield from named(answers_come_at_once)
     together = answered_together(HELLO + BYE + HELLO, WELCOME + PARTED + WELCOME, 0)
     yield "lines-in-one-write", together
     lines, bound = HELLO * 9_999 + BYE, b'{"error":"bound"}\n'
@@ -219,8 +219,7 @@ def tests_of_pipes() -> Tests:
     yield "input-that-cannot-be-read", input_that_cannot_be_read("run")
     yield "input-of-an-audit-that-cannot-be-read", input_that_cannot_be_read("audit")
     yield "input-of-a-picture-that-cannot-be-read", input_that_cannot_be_read("draw")
-    yield "no-verdict-before-the-end", no_verdict_before_the_end
-    yield "refused-line-of-an-audit-is-answered-at-once", refused_line_is_answered_at_once
+    yield from named(no_verdict_before_the_end, refused_line_of_an_audit_is_answered_at_once)
     yield "verdict-that-cannot-be-written", lost("audit", DERIVATION, 1)
     yield "output-that-cannot-be-written", lost("run", CONFIG + HELLO * 1000, 1)
     yield "nothing-to-write", lost("run", CONFIG, 0)
@@ -251,16 +250,13 @@ def tests() -> Tests:
     yield from tests_of_pipes()
     yield from tests_of_words()
     yield "help", help_with_a_file(WELCOME, ["run", "audit", "draw", "share", "serve"])
-    yield "help-on-run", help_on_run
+    yield from named(help_on_run)
     yield "help-on-audit", help_with_a_file(SHARED, ["audit"], "audit")
-    yield "help-on-draw", help_on_draw
-    yield "man-page", man_page
-    yield "library-page", library_page
+    yield from named(help_on_draw, man_page, library_page)
     yield "version", versioned("--version")
     yield "version-before-other-words", versioned("--version", "run", "now")
     yield "example-derivation", derivation_of("derivation.jsonl", SHARED, 0)
     # Without the step by which bob takes g, he may not grant to vertex 5.
     short = b'{"denied":"grant","from":2,"missing":"g","step":3,"to":5,"verdict":"step denied"}\n'
     yield "example-derivation-short", derivation_of("derivation-short.jsonl", short, 1)
-    yield "demo-of-the-readme", readme_example
-    yield "demo-of-an-audit", demo_of_an_audit
+    yield from named(demo_of_the_readme, demo_of_an_audit)

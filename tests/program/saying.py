@@ -6,7 +6,7 @@ import socket
 import subprocess
 from pathlib import Path
 
-from checking import Test, Tests, same
+from checking import Test, Tests, named, same
 from program.programs import CONFIG
 from running import Word, ran, started, unreadable
 from server.servers import ANY_PORT
@@ -28,7 +28,7 @@ def says(wanted: bytes, *words: str, given: bytes = CONFIG, output: str = os.dev
     return test
 
 
-def no_reading(program: Path) -> None:
+def no_input_to_read(program: Path) -> None:
     """An input that cannot be read is named, with the reason."""
     with unreadable() as folder:
         found = ran(program, "run", given=None, stdin=folder)
@@ -78,13 +78,13 @@ def explains(word: str, head: bytes, rows: list[tuple[bytes, bytes | None]]) -> 
     return test
 
 
-def last_line_without_line_feed(program: Path) -> None:
+def last_line_explained(program: Path) -> None:
     """The last line may lack its line feed."""
     found = ran(program, "run", "--explain", given=CONFIG + b"x")
     same(found.stderr, b"line 2: not one JSON value in UTF-8\n")
 
 
-def explains_nothing_else(program: Path) -> None:
+def nothing_else_explained(program: Path) -> None:
     """No other mode takes the word, and nothing stands behind it."""
     for words in (["draw", "--explain"], ["run", "--explain", "x"], ["run"] + ["--explain"] * 2):
         same(ran(program, *words, given=CONFIG).returncode, 2, str(words))
@@ -97,7 +97,7 @@ def last_said(program: Path, *words: Word, given: bytes = CONFIG) -> bytes:
     return found.stderr.splitlines()[-1]
 
 
-def port_in_use(program: Path) -> None:
+def port_in_use_explained(program: Path) -> None:
     """A port that is in use is named, with the reason."""
     with socket.create_server(("127.0.0.1", 0)) as taken:
         address = f"127.0.0.1:{taken.getsockname()[1]}"
@@ -110,7 +110,7 @@ def not_served(wanted: bytes, *words: str, given: bytes = CONFIG) -> Test:
     return lambda program: same(last_said(program, *words, given=given), wanted)
 
 
-def waits_on_a_terminal(program: Path) -> None:
+def waits_for_its_configuration(program: Path) -> None:
     """On a terminal a server says that it waits for its configuration."""
     leader, follower = pty.openpty()
     how = {"stdin": follower, "stderr": subprocess.PIPE}
@@ -129,7 +129,7 @@ def tests() -> Tests:
     yield "no-space-for-audit", says(full, "audit", given=CONFIG + GOAL, output=device)
     question = ("share", "--from", "1", "--to", "1", "--rights", "r")
     yield "no-space-for-share", says(full, *question, output=device)
-    yield "no-input-to-read", no_reading
+    yield from named(no_input_to_read)
     names = b"tgdoc: the configuration is refused: a name is not 1 to 32 letters a to z, "
     names += b"or two principals have the same name\n"
     for word in ("run", "draw"):
@@ -142,9 +142,7 @@ def tests() -> Tests:
     for name, given in (("configuration", TWICE), ("malformed-name", MALFORMED)):
         unserved = not_served(names.rstrip(), *ANY_PORT, given=given)
         yield f"{name}-explained-for-serve", unserved
-    yield "port-in-use-explained", port_in_use
-    yield "waits-for-its-configuration", waits_on_a_terminal
+    yield from named(port_in_use_explained, waits_for_its_configuration)
     yield "lines-explained", explains("run", CONFIG, EVENTS)
     yield "steps-explained", explains("audit", CONFIG + GOAL, STEPS)
-    yield "last-line-explained", last_line_without_line_feed
-    yield "nothing-else-explained", explains_nothing_else
+    yield from named(last_line_explained, nothing_else_explained)

@@ -3,7 +3,7 @@
 import resource
 from pathlib import Path
 
-from checking import Test, Tests, same
+from checking import Test, Tests, named, same
 from faults import faults
 from faults.faults import BEFORE_ANY, one_of, tell_refused
 from fuzz.sharing import NEVER, NO_SERIAL, SHARED, TOO_MUCH, audited, shared
@@ -135,7 +135,7 @@ def no_questions() -> Tests:
         yield f"question-{name}", alone(CHAIN, question, b"", 2)
 
 
-def helped(program: Path) -> None:
+def help_on_share(program: Path) -> None:
     """The help says what the options are."""
     found = ran(program, "share", "--help")
     named = [b"--from", b"--to", b"--rights", b"--steps", b"Letters", b"tgdoc share"]
@@ -143,7 +143,7 @@ def helped(program: Path) -> None:
     same([word for word in named if word not in found.stdout], [], "not named")
 
 
-def few_serials(program: Path) -> None:
+def no_serial_left_for_a_question(program: Path) -> None:
     """Where no serial is left, what takes a new vertex cannot be done, and is no `never`."""
 
     def opening(names: list[str], *edges: list[object]) -> bytes:
@@ -156,7 +156,7 @@ def few_serials(program: Path) -> None:
     same(shared(program, lines, *words("alice", "bob", "r")), (NEVER, 0))
 
 
-def memory_refused(program: Path) -> None:
+def memory_refused_to_a_question(program: Path) -> None:
     """Each allocation fails in turn: the answer is right all the same, or `out of memory` in place
     of the answer or of the configuration, or nothing is read."""
     attempt = faults.runs(program, ["share", *words("alice", "3", "r")], CHAIN)
@@ -167,7 +167,7 @@ def memory_refused(program: Path) -> None:
     assert counts["out of memory"] > 10, "too few"
 
 
-def leak_found(program: Path) -> None:
+def example_of_a_leak(program: Path) -> None:
     """The example of a company: a leak, and `never` once it is closed."""
     found = example("leak", program)
     same(found.returncode, 0, found.stderr)
@@ -187,7 +187,7 @@ def of_every_slot() -> bytes:
     return config + HELLO + subject * (MANY - 2) + document
 
 
-def all_slots(program: Path) -> None:
+def a_question_about_all_slots(program: Path) -> None:
     """A question about a graph of 65,536 vertices is answered soon, and in bounded memory."""
     given, before = of_every_slot(), resource.getrusage(resource.RUSAGE_CHILDREN).ru_utime
     derivation, status = shared(program, given, *words("3", str(MANY), "r"))
@@ -201,8 +201,5 @@ def tests() -> Tests:
     yield from answers()
     yield from lookups()
     yield from no_questions()
-    yield "help-on-share", helped
-    yield "no-serial-left-for-a-question", few_serials
-    yield "memory-refused-to-a-question", memory_refused
-    yield "a-question-about-all-slots", all_slots
-    yield "example-of-a-leak", leak_found
+    yield from named(help_on_share, no_serial_left_for_a_question, memory_refused_to_a_question)
+    yield from named(a_question_about_all_slots, example_of_a_leak)

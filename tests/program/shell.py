@@ -12,7 +12,7 @@ import threading
 import time
 from pathlib import Path
 
-from checking import Test, Tests, same
+from checking import Test, Tests, named, same
 from running import ROOT, SECONDS, Process, hear, ran, rest_of, started, tell
 from server.servers import AGREED, Server, running
 
@@ -48,7 +48,7 @@ def printed(name: str, *words: str, status: int = 0) -> Test:
     return test
 
 
-def record_fits(program: Path) -> None:
+def shell_keeps_a_run(program: Path) -> None:
     """The lines that the shell keeps are a run: each is answered there as it was on the server,
     though slots were used up and freed between them."""
     with tempfile.TemporaryDirectory() as folder:
@@ -90,7 +90,7 @@ def line_of_shell(process: Process, line: str) -> str:
     return (hear(process) + hear(process)).decode()
 
 
-def in_a_terminal(program: Path) -> None:
+def shell_in_a_terminal(program: Path) -> None:
     """At a terminal there are prompts, completion and history, and Ctrl-D ends the shell."""
     process, terminal = pty.fork()
     if process == 0:
@@ -124,7 +124,7 @@ def until(terminal: int, wanted: bytes | None) -> bytes:
     return seen
 
 
-def of_the_readme(program: Path) -> None:
+def shell_of_the_readme(program: Path) -> None:
     """README.md shows what the shell prints, but for its last prompt."""
     rows = (ROOT / "README.md").read_text().splitlines()
     first = rows.index("    $ make play") + 1
@@ -144,7 +144,7 @@ alice> share r 2 alice
 This server is not"""
 
 
-def other_server(program: Path) -> None:
+def shell_on_another_server(program: Path) -> None:
     """On a server that is not its own the shell talks, and says what it cannot tell."""
     words, config = ("--listen", "127.0.0.1:0", "--connections", "1"), b'{"principals":["alice"]}\n'
     with running(program, *words, config=config) as process:
@@ -157,7 +157,7 @@ def other_server(program: Path) -> None:
     assert text.endswith("alice> bye\nBye.\n> \n"), text
 
 
-def without_rt(_: Path) -> None:
+def no_program_and_no_rt(_: Path) -> None:
     """Without a program and without `rt` there is one sentence, and no more."""
     with tempfile.TemporaryDirectory() as name:
         folder = Path(name)
@@ -177,8 +177,5 @@ def tests() -> Tests:
     yield "shell-names", printed("names")
     yield "shell-is-confused", printed("is-confused", status=1)
     yield "shell-shows-lines", printed("shows-lines", "--raw")
-    yield "shell-keeps-a-run", record_fits
-    yield "shell-in-a-terminal", in_a_terminal
-    yield "shell-on-another-server", other_server
-    yield "shell-of-the-readme", of_the_readme
-    yield "no-program-and-no-rt", without_rt
+    yield from named(shell_keeps_a_run, shell_in_a_terminal, shell_on_another_server)
+    yield from named(shell_of_the_readme, no_program_and_no_rt)

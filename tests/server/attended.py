@@ -20,7 +20,7 @@ from concurrent.futures import ThreadPoolExecutor
 from pathlib import Path
 from typing import Any
 
-from checking import Tests, same, skipped
+from checking import Tests, named, same, skipped
 from faults import faults
 from faults.faults import Fault, Ran
 from models.graph import Graph
@@ -117,7 +117,7 @@ def stop_before_anybody_came(program: Path) -> None:
         same(server.end(), AGREED)
 
 
-def stop_while_clients_work(program: Path) -> None:
+def stop_while_63_clients_work(program: Path) -> None:
     """Sixty-three clients that send line after line are answered until the time is over; then their
     talks end after the lines that have come."""
 
@@ -143,7 +143,7 @@ def stop_while_clients_work(program: Path) -> None:
     assert min(counts) > 2, "a client without answers"
 
 
-def stop_while_silent(program: Path) -> None:
+def stop_while_clients_are_silent(program: Path) -> None:
     """Silent clients are waited for as long as was named; nobody else is let in meanwhile."""
     with attended(program, "--workers", "2") as server:
         with server.connection() as one, server.connection() as two:
@@ -164,7 +164,7 @@ def stop_while_silent(program: Path) -> None:
     assert 2.0 <= took < 6.0, "not in time"
 
 
-def stop_while_nobody_reads(program: Path) -> None:
+def stop_while_a_client_takes_no_answers(program: Path) -> None:
     """A client that takes no answers is left once its talk is to end in any case."""
     with attended(program, "--workers", "1") as server, server.connection() as one:
         one.sendall(HELLO + CREATE + WRITE % (b"a" * 4_096))
@@ -253,7 +253,7 @@ def end_of_a_round(program: Path) -> None:
         server.stop(in_rounds(1))
 
 
-def stops_in_between(program: Path) -> None:
+def stop_between_rounds(program: Path) -> None:
     """A stop that comes as a round ends, or between two, ends the server all the same."""
     for _ in range(5):
         with attended(program, "--round", "1", config=LARGE) as server:
@@ -306,7 +306,7 @@ def greeting(server: Server, stack: contextlib.ExitStack) -> bytes:
     return b""
 
 
-def status_without_a_buffer(program: Path) -> None:
+def status_of_a_client_without_a_buffer(program: Path) -> None:
     """A second client for which a worker has no buffer is not among those that are served, and is
     logged: each allocation fails in turn, until both are served."""
     shorts, wrong = 0, 1
@@ -330,7 +330,7 @@ def status_without_a_buffer(program: Path) -> None:
     assert shorts == BUFFERS, "not each buffer was lacking"
 
 
-def no_socket(program: Path) -> None:
+def no_control_socket(program: Path) -> None:
     """What is no socket that nobody listens on is not replaced: nothing is served then."""
     with tempfile.TemporaryDirectory() as name:
         folder = Path(name)
@@ -383,7 +383,7 @@ except PermissionError:
 """
 
 
-def another_user(program: Path) -> None:
+def another_user_is_refused(program: Path) -> None:
     """Another user cannot connect, though the folder is open to all."""
     if os.geteuid() != 0:
         return skipped("right to act as another user")
@@ -398,7 +398,7 @@ def another_user(program: Path) -> None:
     same(tried.returncode, 3)
 
 
-def hostile_lines(program: Path) -> None:
+def hostile_lines_at_the_control_socket(program: Path) -> None:
     """Ten thousand hostile lines at the control socket are refused, and the server serves."""
     source = random.Random(61)
     texts = [b"", b"[]", b"{}", b'{"op":1}', b'{"op":"stop","within":-1}']
@@ -437,7 +437,7 @@ def errors_of(server: Attended, sent: bytes) -> int:
     return sum(line.startswith(b'{"error"') for line in answers.splitlines())
 
 
-def end_without_an_attendant(program: Path) -> None:
+def end_while_no_answer_is_taken_at_the_control_socket(program: Path) -> None:
     """A client at the socket that takes no answers does not hold up the end of the server."""
     with attended(program) as server, server.attendant() as one:
         server.greet()
@@ -449,7 +449,7 @@ def end_without_an_attendant(program: Path) -> None:
     assert took < 4.0, "not in time"
 
 
-def slow_at_the_socket(program: Path) -> None:
+def slow_at_the_control_socket(program: Path) -> None:
     """A silent client at the socket is left after five seconds, and the next one answered."""
     with attended(program) as server, server.attendant() as one:
         began = time.monotonic()
@@ -545,14 +545,14 @@ def log_that_cannot_be_written(program: Path) -> None:
             same(server.end(), AGREED)
 
 
-def without_an_end(program: Path) -> None:
+def no_server_without_an_end_or_a_socket(program: Path) -> None:
     """Without a number of connections or a control socket nothing is served."""
     found = ran(program, "serve", *ANY_PORT, given=CONFIG)
     same((found.stdout, found.returncode), (b"", 2))
     assert b"--control" in found.stderr, found.stderr
 
 
-def subcommand(program: Path) -> None:
+def control_subcommand(program: Path) -> None:
     """`tgdoc control` asks and prints; its status is 0 if that was done."""
 
     def control(*words: Word) -> tuple[bytes, int]:
@@ -611,7 +611,7 @@ def watching_ends_with_an_error(program: Path) -> None:
         same((found.stderr, found.returncode), (b"", 1))
 
 
-def asked_in_vain(program: Path) -> None:
+def control_without_an_answer(program: Path) -> None:
     """A server that does not answer is waited for for ten seconds, and standard error says so."""
     with answering() as path:
         began = time.monotonic()
@@ -659,7 +659,7 @@ def memory_refused_to_attendants(program: Path) -> None:
     faults.tell_refused(faults.memory_refused(attempt, faults.one_of(ends)))
 
 
-def memory_refused_to_ask(program: Path) -> None:
+def memory_refused_to_the_control_subcommand(program: Path) -> None:
     """Each allocation fails as a server is asked: all is done as with memory, or standard error
     says why not, or the command line is refused."""
     requests = ("status", "--watch", "1"), ("status",), ("stop",)
@@ -685,7 +685,7 @@ def memory_refused_to_ask(program: Path) -> None:
     assert counts["said"] > 0, "it was never said that memory is lacking"
 
 
-def idle_costs_little(program: Path) -> None:
+def idle_with_a_control_socket(program: Path) -> None:
     """An idle server with a control socket takes little of a processor: less than three
     hundredths, on a slow machine and in either build."""
     with attended(program, "--workers", "16", config=LARGE) as server:
@@ -711,7 +711,7 @@ def read_some(one: socket.socket, count: int) -> None:
         count -= len(piece)
 
 
-def memory_refused_at_a_stop(program: Path) -> None:
+def stop_without_memory(program: Path) -> None:
     """A server that may take no more memory, which clients use up, stops when it is told to."""
 
     def few() -> None:
@@ -734,34 +734,17 @@ def memory_refused_at_a_stop(program: Path) -> None:
 
 
 def tests() -> Tests:
-    yield "stop-while-idle", stop_while_idle
-    yield "stop-before-anybody-came", stop_before_anybody_came
-    yield "stop-while-63-clients-work", stop_while_clients_work
-    yield "stop-while-clients-are-silent", stop_while_silent
-    yield "stop-while-a-client-takes-no-answers", stop_while_nobody_reads
-    yield "stop-while-a-client-reads-a-little", stop_while_a_client_reads_a_little
-    yield "stop-without-a-descriptor", stop_without_a_descriptor
-    yield "stop-twice", stop_twice
-    yield "end-of-a-round", end_of_a_round
-    yield "stop-between-rounds", stops_in_between
-    yield "stop-without-memory", memory_refused_at_a_stop
-    yield "status-tells", status_tells
-    yield "status-of-a-client-without-a-buffer", status_without_a_buffer
-    yield "no-control-socket", no_socket
-    yield "killed-and-started-again", killed_and_started_again
-    yield "another-user-is-refused", another_user
-    yield "hostile-lines-at-the-control-socket", hostile_lines
-    yield "slow-at-the-control-socket", slow_at_the_socket
-    yield "end-while-no-answer-is-taken-at-the-control-socket", end_without_an_attendant
-    yield "log-tells", log_tells
-    yield "log-that-cannot-be-written", log_that_cannot_be_written
-    yield "history-replays", history_replays
-    yield "history-that-cannot-be-written", history_that_cannot_be_written
-    yield "no-server-without-an-end-or-a-socket", without_an_end
-    yield "control-subcommand", subcommand
-    yield "control-without-an-answer", asked_in_vain
-    yield "watching-ends-with-an-error", watching_ends_with_an_error
-    yield "memory-refused-to-the-control-subcommand", memory_refused_to_ask
-    yield "thread-refused-to-attendants", thread_refused_to_attendants
-    yield "memory-refused-to-attendants", memory_refused_to_attendants
-    yield "idle-with-a-control-socket", idle_costs_little
+    yield from named(stop_while_idle, stop_before_anybody_came, stop_while_63_clients_work)
+    yield from named(stop_while_clients_are_silent, stop_while_a_client_takes_no_answers)
+    yield from named(stop_while_a_client_reads_a_little, stop_without_a_descriptor, stop_twice)
+    yield from named(end_of_a_round, stop_between_rounds)
+    yield from named(stop_without_memory, status_tells, status_of_a_client_without_a_buffer)
+    yield from named(no_control_socket, killed_and_started_again, another_user_is_refused)
+    yield from named(hostile_lines_at_the_control_socket, slow_at_the_control_socket)
+    yield from named(end_while_no_answer_is_taken_at_the_control_socket, log_tells)
+    yield from named(log_that_cannot_be_written, history_replays, history_that_cannot_be_written)
+    yield from named(no_server_without_an_end_or_a_socket, control_subcommand)
+    yield from named(control_without_an_answer)
+    yield from named(watching_ends_with_an_error, memory_refused_to_the_control_subcommand)
+    yield from named(thread_refused_to_attendants, memory_refused_to_attendants)
+    yield from named(idle_with_a_control_socket)

@@ -10,7 +10,7 @@ from collections.abc import Iterator
 from pathlib import Path
 from typing import Any
 
-from checking import Tests, same
+from checking import Tests, named, same
 from models.reading import line_of
 from running import ran
 from server.servers import AGREED, ANY_PORT, BYE, CONFIG, CREATE, DONE, HELLO, LOOK, MADE, PARTED
@@ -61,7 +61,7 @@ def flooded(server: Server, lines: bytes, times: int) -> int:
     return count
 
 
-def reads_of_a_long_text(program: Path) -> None:
+def memory_that_reads_fill(program: Path) -> None:
     """A client that reads a text of 4,096 bytes without end fills what a round may keep, and no
     more: the round ends and agrees."""
     with served(program, 4, 5, *BOUND) as server:
@@ -69,7 +69,7 @@ def reads_of_a_long_text(program: Path) -> None:
         assert flooded(server, READ * 1_000, 200) > KEPT // 2, "too few answers"
 
 
-def looks_at_many_edges(program: Path) -> None:
+def memory_that_looks_fill(program: Path) -> None:
     """So does one that looks over 60,000 edges: lines are taken singly where one can fill it."""
     config = line_of({"principals": ["alice"], "slots": 65_536, "cells": 131_072}) + b"\n"
     with served(program, 4, 5, *BOUND, config=config) as server:
@@ -85,7 +85,7 @@ def looks_at_many_edges(program: Path) -> None:
         flooded(server, LOOK * 1_000, 1)
 
 
-def honest_beside_a_flood(program: Path) -> None:
+def memory_beside_a_flood(program: Path) -> None:
     """A client beside one that floods is answered, until the round ends and in the next one."""
     seen, count = b'{"edges":[[2,"t"],[3,"rw"]],"ok":"edges"}\n', 0
     with served(program, 2, 4, *BOUND, "--round", "2", ends=None) as server:
@@ -108,7 +108,7 @@ def honest_beside_a_flood(program: Path) -> None:
     assert count > 0 and first.endswith(b',"round":1}\n'), first
 
 
-def memory_while_nobody_reads(program: Path) -> None:
+def memory_while_a_client_takes_no_answers(program: Path) -> None:
     """A client that takes no answers does not hold up the end of a round whose memory is used up;
     the next round serves."""
     bounds = ("--memory", str(4 * MEGABYTE), "--round", "3")
@@ -144,7 +144,7 @@ def short(program: Path, files: int, warning: str, *words: str) -> Iterator[Serv
         assert warning in said and bool(warning) == ("open files" in said), said
 
 
-def warns_of_descriptors(program: Path) -> None:
+def descriptors_warned_of(program: Path) -> None:
     """A server warns if it may have fewer descriptors than it can need: with a control socket two
     more, with a history one more."""
     with tempfile.TemporaryDirectory() as folder:
@@ -157,7 +157,7 @@ def warns_of_descriptors(program: Path) -> None:
                     server.greet()
 
 
-def waits_for_descriptors(program: Path) -> None:
+def descriptors_that_are_short(program: Path) -> None:
     """A client waits if no descriptor is left, and is served once another one has gone."""
     words = ("6 workers need 10 open files, and the limit is 7", "--workers", "6")
     with short(program, 7, *words, "--connections", "5") as server, contextlib.ExitStack() as stack:
@@ -177,7 +177,7 @@ def waits_for_descriptors(program: Path) -> None:
         server.greet()
 
 
-def lost_for_want_of_descriptors(program: Path) -> None:
+def descriptors_that_never_come(program: Path) -> None:
     """A connection that cannot be accepted for ten seconds counts."""
     began = time.monotonic()
     with short(program, 4, "the limit is 4", "--connections", "1"):
@@ -187,7 +187,7 @@ def lost_for_want_of_descriptors(program: Path) -> None:
     assert 9.5 < passed < 30, "not in time"
 
 
-def says_what_a_round_may_take(program: Path) -> None:
+def memory_is_said(program: Path) -> None:
     """Standard error has the bound: as was asked for, or half of what is available."""
 
     def said(*words: str) -> int:
@@ -201,11 +201,6 @@ def says_what_a_round_may_take(program: Path) -> None:
 
 
 def tests() -> Tests:
-    yield "memory-that-reads-fill", reads_of_a_long_text
-    yield "memory-that-looks-fill", looks_at_many_edges
-    yield "memory-beside-a-flood", honest_beside_a_flood
-    yield "memory-while-a-client-takes-no-answers", memory_while_nobody_reads
-    yield "memory-is-said", says_what_a_round_may_take
-    yield "descriptors-warned-of", warns_of_descriptors
-    yield "descriptors-that-are-short", waits_for_descriptors
-    yield "descriptors-that-never-come", lost_for_want_of_descriptors
+    yield from named(memory_that_reads_fill, memory_that_looks_fill, memory_beside_a_flood)
+    yield from named(memory_while_a_client_takes_no_answers, memory_is_said, descriptors_warned_of)
+    yield from named(descriptors_that_are_short, descriptors_that_never_come)

@@ -5,7 +5,7 @@ import subprocess
 import time
 from pathlib import Path
 
-from checking import Test, Tests, same
+from checking import Test, Tests, named, same
 from faults import faults
 from faults.faults import Fault
 from program.programs import refused
@@ -69,14 +69,14 @@ def address_in_use(program: Path) -> None:
         not_served(LISTEN, f"127.0.0.1:{other.getsockname()[1]}")(program)
 
 
-def input_that_cannot_be_read(program: Path) -> None:
+def server_whose_input_cannot_be_read(program: Path) -> None:
     """A read that fails ends the server with status 1 before it listens, and with no answer."""
     with unreadable() as folder:
         found = ran(program, "serve", *ANY_PORT, *ONE, given=None, stdin=folder)
     same((found.stdout, found.returncode), (b"", 1))
 
 
-def no_random_numbers(program: Path) -> None:
+def server_without_random_numbers(program: Path) -> None:
     """A server asks for random numbers once, and goes on without them."""
     words = ["serve", "--listen", "nonsense", *ONE]
     faulty = [Fault("entropy", number, number) for number in (1, 2)]
@@ -96,7 +96,7 @@ def patient_client(port: int) -> Client:
         time.sleep(0.01)
 
 
-def output_that_cannot_be_written(program: Path) -> None:
+def server_whose_output_cannot_be_written(program: Path) -> None:
     """A server whose own lines are lost serves as others do; its status is 1."""
     port = free_port()
     words = ("serve", "--listen", f"127.0.0.1:{port}", *ONE)
@@ -154,7 +154,7 @@ def tests_of_listening() -> Tests:
         yield "loopback-of-ipv6", accepted("--listen", "[::1]:0", *ONE, host="::1")
         whole = accepted("--listen", f"[0:0:0:0:0:0:0:1]:{free_port()}", *ONE, host="::1")
         yield "loopback-of-ipv6-in-full", whole
-    yield "address-in-use", address_in_use
+    yield from named(address_in_use)
     others = [*OTHERS, *addresses_of_this_machine()]
     addresses = [f"{other}:{port}" for other in others for port in (0, free_port())]
     for address in [*addresses, *NO_ADDRESSES]:
@@ -167,9 +167,8 @@ def tests_of_listening() -> Tests:
     yield "configuration-before-address", first
     unended = accepted(*ANY_PORT, *ONE, config=CONFIG[:-1], is_whole=True)
     yield "configuration-without-line-feed", unended
-    yield "server-without-random-numbers", no_random_numbers
-    yield "server-whose-input-cannot-be-read", input_that_cannot_be_read
-    yield "server-whose-output-cannot-be-written", output_that_cannot_be_written
+    yield from named(server_without_random_numbers, server_whose_input_cannot_be_read)
+    yield from named(server_whose_output_cannot_be_written)
 
 
 # The options with values that are refused.
@@ -194,7 +193,7 @@ def tests_of_words() -> Tests:
     yield "an-option-that-serve-does-not-have", refused("serve", *ANY_PORT, *ONE, "--fast")
     yield "option-without-its-value", refused("serve", *ANY_PORT, "--connections")
     yield "most-workers", accepted(*ANY_PORT, "--workers", "63", *ONE)
-    yield "most-connections", most_connections
+    yield from named(most_connections)
     yield "most-patience", accepted(*ANY_PORT, *ONE, "--patience", "86400")
     mixed = (*ONE, "--patience", "9", "--round", "1", "--workers", "2", *ANY_PORT)
     yield "options-in-another-order", accepted(*mixed)

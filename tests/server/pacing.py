@@ -10,7 +10,7 @@ from concurrent.futures import ThreadPoolExecutor
 from pathlib import Path
 from typing import IO
 
-from checking import Tests, same
+from checking import Tests, named, same
 from models.reading import line_of
 from running import Process
 from server.servers import BYE, CREATE, DONE, HELLO, Server, served
@@ -82,7 +82,7 @@ def makes_and_drops(server: Server) -> list[bytes]:
     return refused
 
 
-def keeps_pace(program: Path) -> None:
+def creates_on_a_busy_processor(program: Path) -> None:
     """No create is refused as full where a little less than half of the slots are reachable,
     however slow the server is."""
     with busy_processor(), served(program, CLIENTS, CLIENTS, config=CONFIG) as server:
@@ -97,7 +97,7 @@ def keeps_pace(program: Path) -> None:
 FEW, IDLE, SOON = 512, 25, 5.0
 
 
-def frees_alone(program: Path) -> None:
+def collector_that_frees_alone(program: Path) -> None:
     """In a vault all of whose slots are full a create fails, and so does no step of a session: if
     everything is dropped, however long the collector found nothing to free before, its own thread
     has room for another one soon."""
@@ -122,7 +122,7 @@ def busy_seconds(process: Process) -> float:
     return sum(int(it.read_text().split()[0]) for it in threads) / 1e9
 
 
-def rests(program: Path) -> None:
+def server_with_nothing_to_do(program: Path) -> None:
     """A server with nothing to do hardly takes a processor."""
     with served(program, 1, 1, config=CONFIG) as server, server.client() as alice:
         alice.hello("alice")
@@ -137,6 +137,5 @@ def rests(program: Path) -> None:
 
 
 def tests() -> Tests:
-    yield "creates-on-a-busy-processor", keeps_pace
-    yield "server-with-nothing-to-do", rests
-    yield "collector-that-frees-alone", frees_alone
+    yield from named(creates_on_a_busy_processor, server_with_nothing_to_do)
+    yield from named(collector_that_frees_alone)

@@ -11,7 +11,7 @@ from concurrent.futures import ThreadPoolExecutor
 from pathlib import Path
 from random import Random
 
-from checking import Test, Tests, same
+from checking import Test, Tests, named, same
 from fuzz.differential import NAMES, SESSION_OPS, command, row_of, seeds, some
 from models.collector import Course
 from models.graph import Graph
@@ -125,7 +125,7 @@ def visit(server: Server, source: Random, graphs: list[Graph]) -> int:
     return count
 
 
-def same_before_and_after(program: Path) -> None:
+def same_before_and_after_a_rebase(program: Path) -> None:
     """Twenty rounds of one random client each: all answers are those of a graph that is cut down to
     what lives after each round, and those of one that never is."""
     for seed in seeds():
@@ -189,7 +189,7 @@ def models_after_garbage(_: Path) -> None:
 
 
 def tests() -> Tests:
-    yield "models-after-garbage", models_after_garbage
+    yield from named(models_after_garbage)
     yield "a-server-in-rounds", talks(CONFIG, 1, WRITES, READS, dropped=[2])
     yield "one-round", talks(CONFIG, 2, WRITES, READS, dropped=[])
     yield "round-of-more-than-the-connections", talks(CONFIG, 10**6, WRITES, READS, dropped=[])
@@ -199,9 +199,8 @@ def tests() -> Tests:
     principals = talks(CONFIG, 1, ENROLS, RETIRES, ENROLS_AGAIN, COMES_BACK, dropped=[1, 1, 2])
     yield "principals-of-earlier-rounds", principals
     yield "agents-of-earlier-rounds", talks(CONFIG, 1, ACTS, LOOKS, LOOKS, dropped=[3, 1])
-    yield "one-waits-for-the-next-round", one_waits_for_the_next_round
-    yield "many-clients-in-a-round", many_clients_in_a_round
-    yield "same-before-and-after-a-rebase", same_before_and_after
+    yield from named(one_waits_for_the_next_round, many_clients_in_a_round)
+    yield from named(same_before_and_after_a_rebase)
     for number in ("0", "1000001", "-1", "+1", "x", ""):
         words = (*ANY_PORT, "--connections", "1", "--round", number)
         yield f"round-{number or 'nothing'}", refused("serve", *words)

@@ -19,7 +19,7 @@ from pathlib import Path
 from random import Random
 from typing import Any
 
-from checking import Test, Tests, same
+from checking import Test, Tests, named, same
 from models import owners
 from running import SECONDS, example
 from server import attended, bounds, listening, pacing, piling, rounds, talks, waiting
@@ -335,12 +335,8 @@ def of_example(name: str, *wanted: str) -> Test:
 
 def tests_at_once() -> Tests:
     """What many clients do to one another."""
-    yield "slots-come-back", slots_come_back
-    yield "sixteen-clients", sixteen_clients
-    yield "guests-beside-others", guests_beside_others
-    yield "retired-on-two-seats", retired_on_two_seats
-    yield "nobody-is-left", nobody_is_left
-    yield "more-clients-than-workers", more_clients_than_workers
+    yield from named(slots_come_back, sixteen_clients, guests_beside_others, retired_on_two_seats)
+    yield from named(nobody_is_left, more_clients_than_workers)
     yield "four-workers-where-no-number-is-given", waits_for_a_seat(4)
     yield "one-worker", waits_for_a_seat(1, "--workers", "1")
     yield "most-workers-each-with-a-client", waits_for_a_seat(63, "--workers", "63")

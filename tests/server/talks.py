@@ -6,7 +6,7 @@ import time
 from pathlib import Path
 from typing import Any
 
-from checking import Test, Tests, same
+from checking import Test, Tests, named, same
 from server.servers import AGREED, BYE, CONFIG, CREATE, CREATED, DONE, HELLO, LOOK, MADE, NOT_JSON
 from server.servers import PARTED, READ, ROOMY, SEEN, WELCOME, denied, is_silent, poured, read_all
 from server.servers import read_line, refusal_of, served
@@ -325,18 +325,11 @@ def tests() -> Tests:
     yield "no-hello", one_talk(NO_ACTOR, LOOK)
     yield "two-lines-in-one-segment", one_talk(WELCOME + PARTED, HELLO + BYE)
     yield "last-line-without-line-feed", one_talk(WELCOME + SEEN, HELLO, LOOK[:-1])
-    yield "line-in-many-segments", line_in_many_segments
-    yield "answer-comes-before-more", answer_comes_before_more
-    yield "many-lines-before-any-answer-is-read", many_lines_before_any_answer_is_read
-    yield "many-lines-of-a-client", many_lines_of_a_client
-    yield "refusals-of-a-client", refusals_of_a_client
-    yield "after-bye", after_bye
-    yield "lines-up-to-the-limit", lines_up_to_the_limit
-    yield "other-protocols", other_protocols
-    yield "no-other-protocol", no_other_protocol
-    yield "million-lines", million_lines
-    yield "cut-after-each-byte", cut_after_each_byte
-    yield "dropped-after-each-byte", dropped_after_each_byte
+    yield from named(line_in_many_segments, answer_comes_before_more)
+    yield from named(many_lines_before_any_answer_is_read, many_lines_of_a_client)
+    yield from named(refusals_of_a_client, after_bye, lines_up_to_the_limit, other_protocols)
+    yield from named(no_other_protocol, million_lines)
+    yield from named(cut_after_each_byte, dropped_after_each_byte)
     # What was refused as full is in the history, with nothing made, and the server settles.
     for which, config in [("slots", NARROW), ("cells", FEW_CELLS)]:
         answers = WELCOME + MADE + b'{"full":"%s"}\n' % which.encode() + PARTED

@@ -12,7 +12,7 @@ import socket
 import time
 from pathlib import Path
 
-from checking import Test, Tests, same
+from checking import Test, Tests, named, same
 from server.servers import AGREED, BYE, CREATE, DONE, HELLO, LOOK, MADE, PARTED, READ, SEEN, WELCOME
 from server.servers import WRITE, is_silent, read_all, read_line, served
 
@@ -67,7 +67,7 @@ def sends_all(one: socket.socket, lines: bytes, times: int) -> None:
             one.sendall(lines)
 
 
-def never_reads(program: Path) -> None:
+def client_that_never_reads(program: Path) -> None:
     """A client sends lines until none is taken any more, and reads no answer: the next one is
     answered once patience is over, which is waited for once, and finds nobody in its seat."""
     with served(program, 1, 2, *LONG_PATIENT, ends=None) as server, server.connection() as one:
@@ -79,7 +79,7 @@ def never_reads(program: Path) -> None:
         same(server.end(), AGREED)
 
 
-def trickles(program: Path) -> None:
+def client_that_trickles(program: Path) -> None:
     """A client that sends a byte of a line now and then has one limit for the whole line, and so
     has one that takes a little of its answers now and then for all of them; the next client is
     answered then."""
@@ -109,7 +109,7 @@ def trickles(program: Path) -> None:
         same(server.end(), AGREED)
 
 
-def stopped_for_a_while(program: Path) -> None:
+def server_that_is_stopped_for_a_while(program: Path) -> None:
     """A server that is stopped and goes on has not lost its clients: neither one that is silent
     nor one whose line has come meanwhile."""
     with contextlib.ExitStack() as stack:
@@ -129,7 +129,7 @@ def stopped_for_a_while(program: Path) -> None:
             same(read_all(one), PARTED)
 
 
-def slow_but_not_silent(program: Path) -> None:
+def client_that_is_slow(program: Path) -> None:
     """A client each of whose lines comes within the limit is served for longer than that."""
     with served(program, 1, 1, *PATIENT) as server, server.connection() as one:
         began, found = time.monotonic(), b""
@@ -143,7 +143,7 @@ def slow_but_not_silent(program: Path) -> None:
     assert passed > 1.5 * PATIENCE, f"{passed:.1f} s only"
 
 
-def reads_late(program: Path) -> None:
+def client_that_reads_late(program: Path) -> None:
     """A client that begins to read late, but within the limit, gets all its answers, which are
     more than the buffers take."""
     text, count = b"a" * 4_096, 2_000
@@ -155,7 +155,7 @@ def reads_late(program: Path) -> None:
     same(found, WELCOME + MADE + DONE + texts + PARTED)
 
 
-def waits_without_end(program: Path) -> None:
+def silent_client_without_a_limit(program: Path) -> None:
     """Without a limit, or under a long one, a silent client keeps its worker."""
     limits = [("--patience", seconds) for seconds in ("65536", "65537", "86400")]
     for words in [(), *limits]:
@@ -173,10 +173,7 @@ def tests() -> Tests:
     yield "silent-clients-in-a-session", silent_clients(HELLO, WELCOME)
     in_a_line = silent_clients(HELLO + LOOK[:10], WELCOME, workers=1)
     yield "silent-clients-in-a-line-of-a-session", in_a_line
-    yield "client-that-never-reads", never_reads
-    yield "client-that-trickles", trickles
-    yield "server-that-is-stopped-for-a-while", stopped_for_a_while
+    yield from named(client_that_never_reads, client_that_trickles)
+    yield from named(server_that_is_stopped_for_a_while)
     yield "silent-clients-one-after-the-other", silent_clients(b"", b"", workers=1, rounds=3)
-    yield "client-that-is-slow", slow_but_not_silent
-    yield "client-that-reads-late", reads_late
-    yield "silent-client-without-a-limit", waits_without_end
+    yield from named(client_that_is_slow, client_that_reads_late, silent_client_without_a_limit)
