@@ -67,14 +67,15 @@ def library() -> Path:
 
 
 @contextlib.contextmanager
-def at_fault(fault: Fault) -> Iterator[tuple[dict[str, str], IO[bytes]]]:
-    """The environment in which this goes wrong, and the file that has a byte for each such call."""
+def at_fault(fault: Fault) -> Iterator[tuple[dict[str, Any], Callable[[], int]]]:
+    """How a program is run in which this goes wrong, and what tells how many calls did."""
     with tempfile.TemporaryFile() as told:
         numbers = {"FIRST": fault.first, "LAST": fault.last, "MOVES": fault.moves}
         numbers |= {"MOST": fault.most, "TOLD": told.fileno()}
         given = {name: str(number) for name, number in numbers.items()}
         given |= {"LD_PRELOAD": str(library()), "FAULT": fault.kind, "WHOSE": fault.whose}
-        yield {**os.environ, **given}, told
+        how = {"env": {**os.environ, **given}, "pass_fds": [told.fileno()]}
+        yield how, lambda: os.fstat(told.fileno()).st_size
 
 
 @contextlib.contextmanager
@@ -88,11 +89,10 @@ def source_of(given: bytes) -> Iterator[IO[bytes]]:
 
 def ran(program: Path, words: list[str], given: bytes, fault: Fault) -> Ran:
     """A run on these bytes, in which this goes wrong."""
-    with source_of(given) as source, at_fault(fault) as (environment, told):
-        how: dict[str, Any] = {"stdin": source, "stderr": subprocess.DEVNULL, "env": environment}
-        how |= {"pass_fds": [told.fileno()], "timeout": SECONDS}
-        done = subprocess.run([str(program), *words], stdout=subprocess.PIPE, **how)
-        return Ran(done.stdout, done.returncode, os.fstat(told.fileno()).st_size)
+    with source_of(given) as source, at_fault(fault) as (how, count):
+        how |= {"stdin": source, "stdout": subprocess.PIPE, "stderr": subprocess.DEVNULL}
+        done = subprocess.run([str(program), *words], timeout=SECONDS, **how)
+        return Ran(done.stdout, done.returncode, count())
 
 
 def runs(program: Path, words: list[str], given: bytes) -> Callable[[Fault], Ran]:

@@ -18,7 +18,7 @@ import time
 from collections import Counter
 from collections.abc import Callable, Collection
 from pathlib import Path
-from typing import Any, NamedTuple
+from typing import NamedTuple
 
 from checking import Test, Tests, same, tell_counts
 from faults import faults, scripts
@@ -126,9 +126,8 @@ def serve(
     port, connections, answers = free_port(), str(len(talks)), []
     words = ("--listen", f"127.0.0.1:{port}", *options, "--connections", connections)
     opening = faults.source_of(scripts.SERVED + b"\n")
-    with opening as source, faults.at_fault(fault) as (environment, told):
-        how: dict[str, Any] = {"stdin": source, "stderr": subprocess.DEVNULL}
-        how |= {"env": environment, "pass_fds": [told.fileno()], "seconds": SECONDS}
+    with opening as source, faults.at_fault(fault) as (how, count):
+        how |= {"stdin": source, "stderr": subprocess.DEVNULL, "seconds": SECONDS}
         with started(program, "serve", *words, **how) as process:
             wait_for_threads(process)
             for lines in talks:
@@ -136,7 +135,7 @@ def serve(
                 answers += talk(connection, lines) if connection else [None] * len(lines)
             assert process.stdout
             output, status = process.stdout.read(), process.wait(SECONDS)
-        return Served(answers, output, status, os.fstat(told.fileno()).st_size, port)
+        return Served(answers, output, status, count(), port)
 
 
 ALL_ANSWERS = [answer for pairs in scripts.TALKS for _, answer in pairs]

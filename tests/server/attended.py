@@ -27,8 +27,8 @@ from models.graph import Graph
 from models.reading import Event, line_of, read_config, read_step
 from running import Process, Word, asked, ran, started
 from server.servers import AGREED, ANY_PORT, BYE, CONFIG, CREATE, CREATED, HELLO, LOOK, PARTED, READ
-from server.servers import SEEN, WELCOME, WRITE, Server, in_rounds, is_silent, read_all, read_line
-from server.servers import running
+from server.servers import SEEN, WELCOME, WRITE, Server, busy_part, in_rounds, is_silent, read_all
+from server.servers import read_line, running, takes
 from server.waiting import sends_all
 
 # How a server ends that lacked memory for a client's buffers, of which a worker has two.
@@ -133,24 +133,18 @@ def stop_while_63_clients_work(program: Path) -> None:
     with ThreadPoolExecutor(63) as pool, attended(program, "--workers", "63") as server:
         clients = [pool.submit(works, server) for _ in range(63)]
         until("63 clients", lambda: len(server.status()["clients"]) == 63)
-        began = time.monotonic()
-        server.ask(op="stop", within=2)
-        counts = [one.result() for one in clients]
-        took = time.monotonic() - began
+        with takes(2, 12):
+            server.ask(op="stop", within=2)
+            counts = [one.result() for one in clients]
         same(server.end(), AGREED)
-    print(f"  {min(counts)} to {max(counts)} answers, {took:.1f} s")
-    assert 2.0 <= took < 12.0, "not in time"
+    print(f"  {min(counts)} to {max(counts)} answers")
     assert min(counts) > 2, "a client without answers"
 
 
 def stop_while_clients_are_silent(program: Path) -> None:
     """Silent clients are waited for as long as was named; nobody else is let in meanwhile."""
     with attended(program, "--workers", "2") as server:
-        with server.connection() as one, server.connection() as two:
-            for client in (one, two):
-                client.sendall(HELLO)
-            same([read_line(client) for client in (one, two)], [WELCOME] * 2)
-            began = time.monotonic()
+        with server.seated() as one, server.seated() as two, takes(2, 6):
             server.ask(op="stop", within=2)
             two.sendall(BYE)
             same(read_line(two), PARTED)
@@ -158,10 +152,7 @@ def stop_while_clients_are_silent(program: Path) -> None:
             one.sendall(LOOK)
             same(read_line(one), SEEN)
             same(read_all(one), b"")
-            took = time.monotonic() - began
-            same(server.end(), AGREED)
-    print(f"  {took:.1f} s")
-    assert 2.0 <= took < 6.0, "not in time"
+        same(server.end(), AGREED)
 
 
 def stop_while_a_client_takes_no_answers(program: Path) -> None:
@@ -170,12 +161,9 @@ def stop_while_a_client_takes_no_answers(program: Path) -> None:
         one.sendall(HELLO + CREATE + WRITE % (b"a" * 4_096))
         sends_all(one, READ * 1_000, 900)
         wait_while_it_works(server)
-        began = time.monotonic()
-        same(server.ask(op="stop", within=1), {"ok": "stop"})
-        same(server.end(), AGREED)
-        took = time.monotonic() - began
-    print(f"  {took:.1f} s")
-    assert 1.0 <= took < 10.0, "not in time"
+        with takes(1, 10):
+            same(server.ask(op="stop", within=1), {"ok": "stop"})
+            same(server.end(), AGREED)
 
 
 def stop_while_a_client_reads_a_little(program: Path) -> None:
@@ -212,34 +200,25 @@ def stop_without_a_descriptor(program: Path) -> None:
     """A server that had no descriptor to spare as it began, besides its streams, the socket and the
     listener, stops though nobody comes, and rests until then: it takes less than half a processor
     on a slow machine and in either build."""
-    most = resource.getrlimit(resource.RLIMIT_NOFILE)[1]
-
-    def few() -> None:
-        resource.setrlimit(resource.RLIMIT_NOFILE, (5, most))
-
+    files = resource.RLIMIT_NOFILE
+    most = resource.getrlimit(files)[1]
+    few = functools.partial(resource.setrlimit, files, (5, most))
     with attended(program, preexec_fn=few) as server:
-        resource.prlimit(server.process.pid, resource.RLIMIT_NOFILE, (most, most))
+        resource.prlimit(server.process.pid, files, (most, most))
         server.greet()
-        before = processor_time(server.process)
-        time.sleep(2)
-        used = processor_time(server.process) - before
+        assert busy_part(server.process, 2) < 0.5, "too much"
         server.stop()
-    print(f"  {used * 500:.1f} ms a second")
-    assert used < 1.0, "too much"
 
 
 def stop_twice(program: Path) -> None:
     """A second stop ends a silent client at once."""
-    with attended(program, "--workers", "1") as server, server.connection() as one:
-        one.sendall(HELLO)
-        same(read_line(one), WELCOME)
+    with attended(program, "--workers", "1") as server, server.seated() as one:
         server.ask(op="stop", within=600)
         assert is_silent(one, 1.0), "an answer to no line"
-        began = time.monotonic()
-        server.ask(op="stop", within=0)
-        same(read_all(one), b"")
-        same(server.end(), AGREED)
-    assert time.monotonic() - began < 5.0, "not at once"
+        with takes(0, 5):
+            server.ask(op="stop", within=0)
+            same(read_all(one), b"")
+            same(server.end(), AGREED)
 
 
 def end_of_a_round(program: Path) -> None:
@@ -311,21 +290,20 @@ def status_of_a_client_without_a_buffer(program: Path) -> None:
     logged: each allocation fails in turn, until both are served."""
     shorts, wrong = 0, 1
     for place in itertools.takewhile(lambda _: wrong, itertools.count(1)):
-        with faults.at_fault(Fault("memory", place, place, whose="others")) as (environment, told):
-            how: dict[str, Any] = {"env": environment, "pass_fds": [told.fileno()]}
-            with (
-                attended(program, "--workers", "2", "--log", **how) as server,
-                contextlib.ExitStack() as stack,
-            ):
-                answers = [greeting(server, stack), greeting(server, stack)]
-                wrong = os.fstat(told.fileno()).st_size
-                if answers == [WELCOME, b""]:
-                    clients = server.status()["clients"]
-                    same([client["connection"] for client in clients], [1])
-                    server.ask(op="stop", within=0)
-                    shorts += server.end() == SHORT
-                    rows = [row for row in server.errors() if "connection" in row]
-                    same([row["connection"] for row in rows], [2, 1])
+        with contextlib.ExitStack() as stack:
+            fault = Fault("memory", place, place, whose="others")
+            how, count = stack.enter_context(faults.at_fault(fault))
+            serving = attended(program, "--workers", "2", "--log", **how)
+            server = stack.enter_context(serving)
+            answers = [greeting(server, stack), greeting(server, stack)]
+            wrong = count()
+            if answers == [WELCOME, b""]:
+                clients = server.status()["clients"]
+                same([client["connection"] for client in clients], [1])
+                server.ask(op="stop", within=0)
+                shorts += server.end() == SHORT
+                rows = [row for row in server.errors() if "connection" in row]
+                same([row["connection"] for row in rows], [2, 1])
     print(f"  {place} allocations, {shorts} of them for a buffer of the second client")
     assert shorts == BUFFERS, "not each buffer was lacking"
 
@@ -452,13 +430,10 @@ def end_while_no_answer_is_taken_at_the_control_socket(program: Path) -> None:
 def slow_at_the_control_socket(program: Path) -> None:
     """A silent client at the socket is left after five seconds, and the next one answered."""
     with attended(program) as server, server.attendant() as one:
-        began = time.monotonic()
-        same(server.status()["round"], 1)
-        took = time.monotonic() - began
+        with takes(3, 8):
+            same(server.status()["round"], 1)
         same(one.recv(1), b"")
         server.stop()
-    print(f"  answered after {took:.1f} s")
-    assert 3.0 < took < 8.0, "not in time"
 
 
 def log_tells(program: Path) -> None:
@@ -632,9 +607,8 @@ def thread_refused_to_attendants(program: Path) -> None:
     served. The socket is gone then, as it is if a thread of the server itself cannot be started."""
     for number in range(1, 5):
         fault = Fault("thread", number, number)
-        with tempfile.TemporaryDirectory() as folder, faults.at_fault(fault) as (given, told):
-            how: dict[str, Any] = {"env": given, "pass_fds": [told.fileno()], "given": CONFIG}
-            found = ran(program, "serve", *ANY_PORT, *all_attend(folder), **how)
+        with tempfile.TemporaryDirectory() as folder, faults.at_fault(fault) as (how, _):
+            found = ran(program, "serve", *ANY_PORT, *all_attend(folder), given=CONFIG, **how)
             left = set(os.listdir(folder))
         answer = found.stdout.partition(b"\n")[2] if number == 4 else found.stdout
         said = b"tgdoc: a thread for --control, --log or --history cannot be started\n"
@@ -648,12 +622,11 @@ def memory_refused_to_attendants(program: Path) -> None:
     socket is gone, and so is the folder in which that was made."""
 
     def attempt(fault: Fault) -> Ran:
-        with tempfile.TemporaryDirectory() as folder, faults.at_fault(fault) as (given, told):
+        with tempfile.TemporaryDirectory() as folder, faults.at_fault(fault) as (how, count):
             words = ("--listen", "here", *all_attend(folder))
-            how: dict[str, Any] = {"env": given, "pass_fds": [told.fileno()], "given": CONFIG}
-            found = ran(program, "serve", *words, **how)
+            found = ran(program, "serve", *words, given=CONFIG, **how)
             left = ",".join(sorted(set(os.listdir(folder)) - {"steps"})).encode()
-            return Ran(left, found.returncode, os.fstat(told.fileno()).st_size)
+            return Ran(left, found.returncode, count())
 
     ends = {(b"", 1): "not served", (b"", 2): "command line refused"}
     faults.tell_refused(faults.memory_refused(attempt, faults.one_of(ends)))
@@ -666,11 +639,10 @@ def memory_refused_to_the_control_subcommand(program: Path) -> None:
     counts: Counter[str] = Counter()
 
     def attempt(words: tuple[str, ...], fault: Fault) -> Ran:
-        with answering(IDLE, NO_MEMORY) as path, faults.at_fault(fault) as (environment, told):
-            how: dict[str, Any] = {"env": environment, "pass_fds": [told.fileno()]}
+        with answering(IDLE, NO_MEMORY) as path, faults.at_fault(fault) as (how, count):
             found = ran(program, "control", path, *words, **how)
             said = found.stderr.replace(str(path).encode(), b"PATH")
-            return Ran(found.stdout + said, found.returncode, os.fstat(told.fileno()).st_size)
+            return Ran(found.stdout + said, found.returncode, count())
 
     for words in requests:
         asks = functools.partial(attempt, words)
@@ -691,18 +663,8 @@ def idle_with_a_control_socket(program: Path) -> None:
     with attended(program, "--workers", "16", config=LARGE) as server:
         server.greet()
         time.sleep(2)
-        before = processor_time(server.process)
-        time.sleep(10)
-        used = processor_time(server.process) - before
+        assert busy_part(server.process, 10) < 0.03, "too much"
         server.stop()
-    print(f"  {used * 100:.1f} ms a second")
-    assert used < 0.3, "too much"
-
-
-def processor_time(process: Process) -> float:
-    """The seconds of processor time that a process has used."""
-    fields = Path(f"/proc/{process.pid}/stat").read_text().rpartition(")")[2].split()
-    return (int(fields[11]) + int(fields[12])) / os.sysconf("SC_CLK_TCK")
 
 
 def read_some(one: socket.socket, count: int) -> None:
@@ -713,10 +675,7 @@ def read_some(one: socket.socket, count: int) -> None:
 
 def stop_without_memory(program: Path) -> None:
     """A server that may take no more memory, which clients use up, stops when it is told to."""
-
-    def few() -> None:
-        resource.setrlimit(resource.RLIMIT_AS, (384 << 20, 384 << 20))
-
+    few = functools.partial(resource.setrlimit, resource.RLIMIT_AS, (384 << 20, 384 << 20))
     words = ("--workers", "2", "--memory", "1g")
     how: dict[str, Any] = {"preexec_fn": few, "stderr": subprocess.DEVNULL}
     with attended(program, *words, config=LARGE, **how) as server:

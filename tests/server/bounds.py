@@ -1,12 +1,12 @@
 """What bounds a server: the memory of a round, and the descriptors of its process."""
 
 import contextlib
+import functools
 import resource
 import subprocess
 import tempfile
-import threading
-import time
 from collections.abc import Iterator
+from concurrent.futures import ThreadPoolExecutor
 from pathlib import Path
 from typing import Any
 
@@ -14,8 +14,18 @@ from checking import Tests, named, same
 from models.reading import line_of
 from running import ran
 from server.servers import AGREED, ANY_PORT, BYE, CONFIG, CREATE, DONE, HELLO, LOOK, MADE, PARTED
-from server.servers import READ, WELCOME, WRITE, Server, figure, figure_in, is_silent, read_all
-from server.servers import read_line, running, served
+from server.servers import (
+    READ,
+    WELCOME,
+    WRITE,
+    Server,
+    figure,
+    figure_in,
+    is_silent,
+    pour,
+    read_all,
+)
+from server.servers import read_line, running, served, takes
 from server.waiting import sends_all
 
 MEGABYTE = 1 << 20
@@ -35,20 +45,12 @@ def peak(server: Server) -> int:
 
 def floods(server: Server, lines: bytes, times: int) -> int:
     """A client that sends lines without end and takes all answers; how many bytes it got."""
-    with server.connection() as one:
-
-        def send() -> None:
-            with contextlib.suppress(OSError):
-                for _ in range(times):
-                    one.sendall(lines)
-
-        sender = threading.Thread(target=send)
-        sender.start()
-        count = 0
+    count = 0
+    with server.connection() as one, ThreadPoolExecutor() as pool:
+        pool.submit(pour, one, [lines] * times)
         with contextlib.suppress(ConnectionError):
             while piece := one.recv(1 << 20):
                 count += len(piece)
-        sender.join()
     return count
 
 
@@ -92,13 +94,10 @@ def memory_beside_a_flood(program: Path) -> None:
         with server.connection() as honest:
             honest.sendall(HELLO + CREATE + LONG_TEXT)
             same([read_line(honest) for _ in range(3)], [WELCOME, MADE, DONE])
-            arguments = (server, HELLO + READ * 1_000, 200)
-            flood = threading.Thread(target=floods, args=arguments)
-            flood.start()
-            with contextlib.suppress(ConnectionError):
+            with ThreadPoolExecutor() as pool, contextlib.suppress(ConnectionError):
+                pool.submit(floods, server, HELLO + READ * 1_000, 200)
                 while honest.send(LOOK) and read_line(honest) == seen:
                     count += 1
-            flood.join()
         server.greet()
         server.greet()
         lines, status = server.end()
@@ -117,23 +116,17 @@ def memory_while_a_client_takes_no_answers(program: Path) -> None:
         sends_all(one, READ * 1_000, 900)
         server.greet()
         floods(server, HELLO + LOOK * 1_000, 40)
-        began = time.monotonic()
-        server.greet()
-        took = time.monotonic() - began
+        with takes(0, 5):
+            server.greet()
         lines, status = server.end()
-    print(f"  answered after {took:.1f} s")
     same((lines.splitlines(True)[-1], status), AGREED)
-    assert took < 5.0, "not in time"
 
 
 @contextlib.contextmanager
 def short(program: Path, files: int, warning: str, *words: str) -> Iterator[Server]:
     """A server whose process may have so many files open; if there is a warning, standard error has
     it, and else none."""
-
-    def fewer() -> None:
-        resource.setrlimit(resource.RLIMIT_NOFILE, (files, files))
-
+    fewer = functools.partial(resource.setrlimit, resource.RLIMIT_NOFILE, (files, files))
     how: dict[str, Any] = {"preexec_fn": fewer, "stderr": subprocess.PIPE}
     with running(program, *ANY_PORT, *words, **how) as process:
         server = Server(process)
@@ -161,10 +154,7 @@ def descriptors_that_are_short(program: Path) -> None:
     """A client waits if no descriptor is left, and is served once another one has gone."""
     words = ("6 workers need 10 open files, and the limit is 7", "--workers", "6")
     with short(program, 7, *words, "--connections", "5") as server, contextlib.ExitStack() as stack:
-        clients = [stack.enter_context(server.connection()) for _ in range(3)]
-        for one in clients:
-            one.sendall(HELLO)
-            same(read_line(one), WELCOME)
+        clients = [stack.enter_context(server.seated()) for _ in range(3)]
         late = stack.enter_context(server.connection())
         late.sendall(HELLO)
         assert is_silent(late, 1.5), "served without a descriptor"
@@ -179,12 +169,8 @@ def descriptors_that_are_short(program: Path) -> None:
 
 def descriptors_that_never_come(program: Path) -> None:
     """A connection that cannot be accepted for ten seconds counts."""
-    began = time.monotonic()
-    with short(program, 4, "the limit is 4", "--connections", "1"):
+    with takes(9.5, 30), short(program, 4, "the limit is 4", "--connections", "1"):
         pass
-    passed = time.monotonic() - began
-    print(f"  ended after {passed:.1f} s")
-    assert 9.5 < passed < 30, "not in time"
 
 
 def memory_is_said(program: Path) -> None:

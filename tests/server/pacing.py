@@ -12,8 +12,7 @@ from typing import IO
 
 from checking import Tests, named, same
 from models.reading import line_of
-from running import Process
-from server.servers import BYE, CREATE, DONE, HELLO, Server, served
+from server.servers import BYE, CREATE, DONE, HELLO, Server, busy_part, served
 
 # Of the slots, 1 + 4 * (15 + 16) at most are reachable, a little less than half.
 SLOTS, CLIENTS, KEPT, ROUNDS, AT_ONCE = 256, 4, 15, 150, 16
@@ -116,23 +115,14 @@ def collector_that_frees_alone(program: Path) -> None:
         maker.leave()
 
 
-def busy_seconds(process: Process) -> float:
-    """The processor time that the threads of a process have taken."""
-    threads = Path(f"/proc/{process.pid}/task").glob("*/schedstat")
-    return sum(int(it.read_text().split()[0]) for it in threads) / 1e9
-
-
 def server_with_nothing_to_do(program: Path) -> None:
     """A server with nothing to do hardly takes a processor."""
     with served(program, 1, 1, config=CONFIG) as server, server.client() as alice:
         alice.hello("alice")
         alice.remove("rw", alice.create("document", "rw"))
         time.sleep(1)
-        begun, before = time.monotonic(), busy_seconds(server.process)
-        time.sleep(WATCHED)
-        part = (busy_seconds(server.process) - before) / (time.monotonic() - begun)
+        part = busy_part(server.process, WATCHED)
         alice.bye()
-    print(f"  it took {100 * part:.2f} % of a processor")
     assert part < MOST_BUSY, "too much"
 
 

@@ -5,9 +5,11 @@ its time is over.
 """
 
 import contextlib
+import os
 import select
 import socket
 import subprocess
+import time
 from collections.abc import Iterable, Iterator
 from concurrent.futures import ThreadPoolExecutor
 from pathlib import Path
@@ -58,6 +60,14 @@ class Server:
         with self.client() as one:
             same(one.hello(name), {"alice": 1, "bob": 2}[name], "a greeting")
             one.bye()
+
+    @contextlib.contextmanager
+    def seated(self) -> Iterator[socket.socket]:
+        """A connection over which alice is greeted."""
+        with self.connection() as one:
+            one.sendall(HELLO)
+            same(read_line(one), WELCOME)
+            yield one
 
     def exchange(self, *pieces: bytes) -> bytes:
         """Sends the pieces over a connection, each by itself, and reads all answers."""
@@ -126,6 +136,31 @@ def read_line(one: socket.socket) -> bytes:
 def is_silent(one: socket.socket, seconds: float = 0.3) -> bool:
     """Whether nothing comes for a while."""
     return not select.select([one], [], [], seconds)[0]
+
+
+@contextlib.contextmanager
+def takes(least: float, most: float) -> Iterator[None]:
+    """What is done in the block takes at least and less than so many seconds."""
+    began = time.monotonic()
+    yield
+    took = time.monotonic() - began
+    print(f"  {took:.1f} s")
+    assert least <= took < most, f"not in time: {took:.1f} s"
+
+
+def busy_part(process: Process, seconds: float) -> float:
+    """The part of a processor that a process takes for so many seconds."""
+    began, before = time.monotonic(), processor_time(process)
+    time.sleep(seconds)
+    part = (processor_time(process) - before) / (time.monotonic() - began)
+    print(f"  {100 * part:.2f} % of a processor")
+    return part
+
+
+def processor_time(process: Process) -> float:
+    """The seconds of processor time that a process has used."""
+    fields = Path(f"/proc/{process.pid}/stat").read_text().rpartition(")")[2].split()
+    return (int(fields[11]) + int(fields[12])) / os.sysconf("SC_CLK_TCK")
 
 
 def figure(process: Process, name: str) -> int:
