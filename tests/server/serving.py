@@ -61,10 +61,7 @@ def waits_for_a_seat(workers: int, *words: str) -> Test:
         with running(program, *ANY_PORT, *connections, *words) as process:
             server = Server(process)
             with contextlib.ExitStack() as stack:
-                seated = [stack.enter_context(server.connection()) for _ in range(workers)]
-                for one in seated:
-                    one.sendall(HELLO)
-                same([read_line(one) for one in seated], [WELCOME] * workers)
+                seated = [stack.enter_context(server.seated()) for _ in range(workers)]
                 late = stack.enter_context(server.connection())
                 late.sendall(HELLO)
                 assert is_silent(late), "answered without a worker"

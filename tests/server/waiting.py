@@ -14,7 +14,7 @@ from pathlib import Path
 
 from checking import Test, Tests, named, same
 from server.servers import AGREED, BYE, CREATE, DONE, HELLO, LOOK, MADE, PARTED, READ, SEEN, WELCOME
-from server.servers import WRITE, is_silent, read_all, read_line, served
+from server.servers import WRITE, is_silent, read_all, read_line, served, takes
 
 PATIENCE = 1.0
 PATIENT = ("--patience", "1")
@@ -23,13 +23,6 @@ LATEST = 3 * PATIENCE + 10.0
 # A limit of which it can be told whether it was waited for once or twice.
 LONG_PATIENCE = 6.0
 LONG_PATIENT = ("--patience", "6")
-
-
-def in_time(began: float, patience: float = PATIENCE, latest: float = LATEST) -> None:
-    """The limit has to be over now, and not much more time."""
-    passed = time.monotonic() - began
-    print(f"  answered after {passed:.2f} s")
-    assert patience <= passed < latest, "not in time"
 
 
 def ended_by_server(one: socket.socket) -> bytes | None:
@@ -48,12 +41,11 @@ def silent_clients(sent: bytes, answered: bytes, workers: int = 4, rounds: int =
         count = workers * rounds
         with contextlib.ExitStack() as stack:
             server = stack.enter_context(served(program, workers, count + 1, *PATIENT))
-            began = time.monotonic()
-            silent = [stack.enter_context(server.connection()) for _ in range(count)]
-            for one in silent:
-                one.sendall(sent)
-            server.greet()
-            in_time(began, rounds * PATIENCE)
+            with takes(rounds * PATIENCE, LATEST):
+                silent = [stack.enter_context(server.connection()) for _ in range(count)]
+                for one in silent:
+                    one.sendall(sent)
+                server.greet()
             same([ended_by_server(one) for one in silent], [answered] * count)
 
     return test
@@ -71,11 +63,10 @@ def client_that_never_reads(program: Path) -> None:
     """A client sends lines until none is taken any more, and reads no answer: the next one is
     answered once patience is over, which is waited for once, and finds nobody in its seat."""
     with served(program, 1, 2, *LONG_PATIENT, ends=None) as server, server.connection() as one:
-        began = time.monotonic()
-        one.sendall(HELLO)
-        sends_all(one, LOOK * 1_000, 900)
-        server.greet()
-        in_time(began, LONG_PATIENCE, 2 * LONG_PATIENCE)
+        with takes(LONG_PATIENCE, 2 * LONG_PATIENCE):
+            one.sendall(HELLO)
+            sends_all(one, LOOK * 1_000, 900)
+            server.greet()
         same(server.end(), AGREED)
 
 
@@ -84,28 +75,24 @@ def client_that_trickles(program: Path) -> None:
     has one that takes a little of its answers now and then for all of them; the next client is
     answered then."""
     with served(program, 1, 2, *PATIENT, ends=None) as server, server.connection() as one:
-        began = time.monotonic()
-        one.sendall(HELLO)
-        with contextlib.suppress(ConnectionError):
-            for byte in LOOK * 10:
-                one.sendall(bytes([byte]))
-                time.sleep(PATIENCE / 5)
-                if time.monotonic() > began + 5 * PATIENCE:
-                    break
-        server.greet()
-        in_time(began)
+        with takes(PATIENCE, LATEST):
+            one.sendall(HELLO)
+            with contextlib.suppress(ConnectionError):
+                for byte in (LOOK * 2)[:25]:
+                    one.sendall(bytes([byte]))
+                    time.sleep(PATIENCE / 5)
+            server.greet()
         same(server.end(), AGREED)
     with served(program, 1, 2, *PATIENT, ends=None) as server, server.connection() as one:
-        began = time.monotonic()
-        one.sendall(HELLO)
-        sends_all(one, LOOK * 1_000, 900)
-        with server.connection() as late:
-            late.sendall(HELLO)
-            with contextlib.suppress(ConnectionError):
-                while is_silent(late, PATIENCE / 5) and time.monotonic() < began + 20 * PATIENCE:
-                    one.recv(1_000)
-            in_time(began)
-            same(read_line(late), WELCOME)
+        with takes(PATIENCE, LATEST):
+            one.sendall(HELLO)
+            sends_all(one, LOOK * 1_000, 900)
+            with server.connection() as late:
+                late.sendall(HELLO)
+                with contextlib.suppress(ConnectionError):
+                    while is_silent(late, PATIENCE / 5):
+                        one.recv(1_000)
+                same(read_line(late), WELCOME)
         same(server.end(), AGREED)
 
 
@@ -114,10 +101,7 @@ def server_that_is_stopped_for_a_while(program: Path) -> None:
     nor one whose line has come meanwhile."""
     with contextlib.ExitStack() as stack:
         server = stack.enter_context(served(program, 2, 2, *LONG_PATIENT))
-        silent, busy = (stack.enter_context(server.connection()) for _ in range(2))
-        for one in (silent, busy):
-            one.sendall(HELLO)
-        same([read_line(one) for one in (silent, busy)], [WELCOME] * 2)
+        silent, busy = (stack.enter_context(server.seated()) for _ in range(2))
         for _ in range(3):
             os.kill(server.process.pid, signal.SIGSTOP)
             time.sleep(0.1)
