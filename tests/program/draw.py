@@ -10,13 +10,15 @@ from random import Random
 from checking import Test, Tests, named, needing, same
 from faults import faults
 from faults.faults import BEFORE_ANY, one_of, tell_refused
+from faults.scripts import DONE
 from film.pictures import picture as read
 from fuzz.differential import answered, opening, printed_if_wrong, sources
 from models import picture as model
 from models.collector import Course
 from models.reading import line_of, read_config
-from program.programs import CONFIG, HELLO, PICTURE, WELCOME
+from program.programs import CONFIG, PICTURE
 from running import asked, instructions, joined, ran
+from server.servers import CREATE, HELLO, LONG, NO_MEMORY, SHADE, TOO_LONG, WELCOME
 
 RUNS = 120
 LINES = 40_000
@@ -25,7 +27,6 @@ NODE = b'"]; node [shape=circle,width=1];'
 GRAPH = b'digraph { graph [labelloc=t,labeljust=l,label="'
 FILLED = b"style=filled,fillcolor=skyblue,"
 BLACK, GREY = b"penwidth=4];", b"penwidth=4,color=gray50];"
-DONE = b'{"ok":"done"}'
 SUBJECT = b'class="subject white",style=filled,fillcolor=skyblue,penwidth=1];'
 ALICE = b' 1 [label="1 alice\\nwhite\\nseat 0",' + SUBJECT
 BOB = b' 2 [label="2 bob\\nwhite",' + SUBJECT
@@ -52,10 +53,6 @@ def last_of(lines: list[bytes], wanted: bytes) -> Test:
     return test
 
 
-NO_MEMORY = b'{"error":"out of memory"}\n'
-CREATE = b'{"op":"create","kind":"document","rights":"rw"}\n'
-SHADE = b'{"op":"shade"}\n'
-LONG, TOO_LONG = b" " * 16_385 + b"\n", b'{"error":"line too long"}\n'
 TWO = b'{"cells":8,"principals":["alice","bob"],"slots":4}'
 # Alice makes two documents with rights over each other, and drops both. They are still grey, and
 # outlive a cycle.

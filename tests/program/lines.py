@@ -6,7 +6,9 @@ from collections.abc import Iterable, Iterator
 from typing import NamedTuple
 
 from faults.line_faults import Field, object_of
-from faults.scripts import BOUND, BUSY, MARK, NO_ACTOR, NO_PRINCIPAL, SWEEP, caused, created, edges
+from faults.scripts import BOUND, BUSY, DONE, MARK, NO_ACTOR, NO_PRINCIPAL, NOT_JSON, SWEEP
+from faults.scripts import BYE as PARTED
+from faults.scripts import caused, created, edges
 from faults.scripts import hello, missing, no_document, no_subject, shaded, swept, text, welcome
 from models.reading import EVENTS, STEPS
 from running import joined
@@ -15,7 +17,6 @@ CONFIG = b'{"edges":[[1,"tg",2]],"principals":["alice","bob"]}'
 HELLO = b'{"name":"alice","op":"hello"}'
 WELCOME = b'{"ok":"hello","vertex":1}'
 
-NOT_JSON = b'{"error":"not json"}'
 NOT_OBJECT = b'{"error":"not an object"}'
 UNKNOWN_OP = b'{"error":"unknown op"}'
 MISSING = b'{"error":"missing field"}'
@@ -27,8 +28,7 @@ TOO_MANY = b'{"error":"too many lines"}'
 # The look at alice's own edges, and its answer.
 LOOK = b'{"at":1,"op":"look"}'
 SEEN = b'{"edges":[[2,"tg"]],"ok":"edges"}'
-DONE = b'{"ok":"done"}'
-BYE, PARTED = b'{"op":"bye"}', b'{"ok":"bye"}'
+BYE = b'{"op":"bye"}'
 SHADE, NO_TARGET = b'{"op":"shade"}', b'{"shaded":null}'
 NO_SEAT, FULL = b'{"error":"no seat"}', b'{"full":"%s"}'
 ASSUME, READ, LOOK_AT = (

@@ -9,11 +9,9 @@ from pathlib import Path
 
 from checking import Test, Tests, named, same
 from running import ROOT, Word, asked, example, hear, ran, rest_of, started, tell, unreadable
+from server.servers import BYE, HELLO, PARTED, WELCOME
 
 CONFIG = b'{"principals":["alice"]}\n'
-HELLO = b'{"name":"alice","op":"hello"}\n'
-WELCOME = b'{"ok":"hello","vertex":1}\n'
-BYE, PARTED = b'{"op":"bye"}\n', b'{"ok":"bye"}\n'
 DERIVATION = CONFIG + b'{"from":1,"rights":"r","to":2}\n'
 DERIVATION += b'{"actor":1,"kind":"document","op":"create","rights":"r"}\n'
 SHARED = b'{"verdict":"shared"}\n'

@@ -9,9 +9,9 @@ from faults.faults import BEFORE_ANY, one_of, tell_refused
 from fuzz.sharing import NEVER, NO_SERIAL, SHARED, TOO_MUCH, audited, shared
 from models.reading import line_of
 from running import example, ran
+from server.servers import HELLO, LONG, NO_MEMORY, NOT_JSON, SHADE, TOO_LONG
 
-NO_PRINCIPAL, NO_MEMORY = b'{"error":"no principal"}\n', b'{"error":"out of memory"}\n'
-NO_VERTEX, NOT_JSON = b'{"error":"no vertex","vertex":%d}\n', b'{"error":"not json"}\n'
+NO_PRINCIPAL, NO_VERTEX = b'{"error":"no principal"}\n', b'{"error":"no vertex","vertex":%d}\n'
 COULD = b'{"could":[%s]}\n'
 # Alice has t over bob, who may read what carol is, which is no use to carol.
 CHAIN = b'{"edges": [[1, "t", 2], [2, "r", 3]],  "principals":["alice","bob","carol"]}\n'
@@ -20,9 +20,6 @@ TAKE = b'{"actor":1,"from":2,"op":"take","over":3,"rights":"r"}\n'
 # Alice may write what carol is, and take from bob, who may read it: bob makes a document that she
 # takes, and through which she passes that on.
 TWO = b'{"edges":[[1,"w",3],[1,"t",2],[2,"r",3]],"principals":["alice","bob","carol"]}\n'
-LONG, TOO_LONG = b" " * 16_385 + b"\n", b'{"error":"line too long"}\n'
-HELLO = b'{"op":"hello","name":"alice"}\n'
-SHADE = b'{"op":"shade"}\n'
 # Alice enrols bob, with whom she then shares nothing, makes a document and a subject, drops the
 # subject, and writes. What changed edges are the makes and the remove.
 WORK = b"""{"principals":["alice"]}

@@ -8,8 +8,8 @@ from typing import Any
 
 from checking import Test, Tests, named, same
 from server.servers import AGREED, BYE, CONFIG, CREATE, CREATED, DONE, HELLO, LOOK, MADE, NOT_JSON
-from server.servers import PARTED, READ, ROOMY, SEEN, WELCOME, denied, is_silent, poured, read_all
-from server.servers import read_line, refusal_of, served
+from server.servers import PARTED, READ, ROOMY, SEEN, SHADE, WELCOME, denied, is_silent, poured
+from server.servers import read_all, read_line, refusal_of, served
 
 # Room for one document, by slots and by cells.
 NARROW = b'{"edges":[[1,"rt",2]],"principals":["alice","bob"],"slots":3}\n'
@@ -17,7 +17,6 @@ FEW_CELLS = b'{"cells":2,"edges":[[1,"t",2]],"principals":["alice","bob"]}\n'
 ENROL = b'{"name":"carol","op":"enrol","rights":"t"}\n'
 CAROL = b'{"name":"carol","op":"hello"}\n'
 RETIRE, LEAVE, ASSUME = b'{"op":"retire"}\n', b'{"op":"leave"}\n', b'{"agent":%d,"op":"assume"}\n'
-SHADE = b'{"op":"shade"}\n'
 EDGES = b'{"edges":[%s],"ok":"edges"}\n'
 CAUSED, ERROR = b'{"cause":"%s","denied":"%s"}\n', b'{"error":"%s"}\n'
 NO_ACTOR, NO_PRINCIPAL, BOUND = (ERROR % it for it in (b"no actor", b"no principal", b"bound"))
