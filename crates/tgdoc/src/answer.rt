@@ -1,8 +1,7 @@
 //! One line: read, carried out, answered.
 
-ghost use Rattle.std.specs.Prelude.{◌≡◌, ℕ, List, Ok, false};
+ghost use Rattle.std.specs.Prelude.{false};
 ghost use Rattle.tg_talk.specs.Promise.Answering.{is_wrong, one_if, shown_line};
-ghost use Rattle.tg_wire.specs.Promise.Lines.{line_of};
 ghost use Rattle.tgdoc.specs.Inner.Running.{AnswersLine, RunnerSays, TellsSwept};
 
 use std::alloc::Global;
@@ -32,8 +31,8 @@ impl Responder for Runner {
     }
 }
 
-/// Reads a line, whose value takes the place of another, carries out its event or a cycle of the collector, and writes
-/// the answer's line into the room.
+/// Reads a line, whose value takes the place of another, carries out its event, without moving it, or a cycle of the
+/// collector, and writes the answer's line into the room.
 #[inline(always)]
 pub(crate) fn answer(
     alloc: Global,
@@ -44,17 +43,9 @@ pub(crate) fn answer(
 ) -> Text
     ensures { AnswersLine vault.old bytes.now vault.new (shown_line room.new result) (one_if (is_wrong result)) }
 {
-    match read_line_into(room, alloc, bytes, line) {
-        Ok(()) => carry_out(vault, line, room),
-        Err(fault) => Text::Refusal(fault),
+    if let Err(fault) = read_line_into(room, alloc, bytes, line) {
+        return Text::Refusal(fault);
     }
-}
-
-/// Carries out what a line asks for, without moving it, and writes the answer's line into the room.
-#[inline(always)]
-fn carry_out(vault: &mut Vault, line: &mut Line, room: &mut LineRoom) -> Text
-    ensures { (bytes : List ℕ) → line_of bytes ≡ Ok line.old → AnswersLine vault.old bytes vault.new (shown_line room.new result) (one_if (is_wrong result)) }
-{
     match line {
         Line::Act(event) => {
             let mut answer = Answer::Bye;
