@@ -59,6 +59,21 @@ pub(crate) fn answer(
     }
 }
 
+/// The same where nobody waits for the answer.
+// Out of line, so that the loop of a run is the only one that has all of it in place.
+#[inline(never)]
+pub(crate) fn answer_apart(
+    alloc: Global,
+    vault: &mut Vault,
+    bytes: &[u8],
+    room: &mut LineRoom,
+) -> Text
+    ensures { AnswersLine vault.old bytes.now vault.new (shown_line room.new result) (one_if (is_wrong result)) }
+{
+    let mut line = Line::Cycle;
+    answer(alloc, vault, &mut line, bytes, room)
+}
+
 /// The line of what a cycle did, or `out of memory` in its place.
 fn tell_swept(room: &mut LineRoom, swept: Swept) -> Text
     ensures { TellsSwept swept (shown_line room.new result) (is_wrong result) }

@@ -7,7 +7,7 @@ ghost use Rattle.tg_talk.specs.declared.fault.TalkFault.TheVariants.{OutOfMemory
 ghost use Rattle.tgdoc.specs.Promise.Drawings.{DrawnFor, PictureAtEnd, Shown, ends_label, is_broken, line_label};
 ghost use Rattle.tgdoc.specs.Inner.Drawing.{ArtistSays, EndsDrawing, WrittenLast};
 
-use crate::answer::answer;
+use crate::answer::answer_apart;
 use crate::finish::finish;
 use itoa::Buffer;
 use std::alloc::{AllocError, Global};
@@ -15,7 +15,7 @@ use std::io::{BufWriter, Write};
 use tg_draw::draw;
 use tg_talk::{Finished, Responder, Said, TalkFault, Text, Watched};
 use tg_vault::Vault;
-use tg_wire::{Line, LineRoom, WireFault, error_line};
+use tg_wire::{LineRoom, WireFault, error_line};
 
 /// Who answers the lines of a run that is drawn: with a picture of the vault after each, or with nothing.
 #[derive(Drop)]
@@ -34,8 +34,7 @@ impl Responder for Artist {
 
     #[inline(always)]
     fn respond(&mut self, line: &[u8], room: &mut LineRoom) -> Said {
-        let mut asked = Line::Cycle;
-        let answered = answer(self.alloc, &mut self.vault, &mut asked, line, room);
+        let answered = answer_apart(self.alloc, &mut self.vault, line, room);
         Said::Answer(shown(self, line, answered, room))
     }
 }
