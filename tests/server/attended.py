@@ -2,6 +2,7 @@
 
 import contextlib
 import functools
+import http.client
 import itertools
 import json
 import os
@@ -11,6 +12,7 @@ import resource
 import signal
 import socket
 import subprocess
+import sys
 import tempfile
 import threading
 import time
@@ -25,7 +27,7 @@ from faults import faults
 from faults.faults import Fault, Ran
 from models.graph import Graph
 from models.reading import Event, line_of, read_config, read_step
-from running import Process, Word, asked, ran, started
+from running import ROOT, Process, Word, asked, ran, started
 from server.servers import AGREED, ANY_PORT, BYE, CONFIG, CREATE, CREATED, HELLO, LOOK, PARTED, READ
 from server.servers import SEEN, WELCOME, WRITE, Server, busy_part, in_rounds, is_silent, read_all
 from server.servers import read_line, running, takes
@@ -566,8 +568,10 @@ def answering(*answers: bytes) -> Iterator[Path]:
 
         with ThreadPoolExecutor(1) as pool:
             pool.submit(answer_all)
-            yield path
-            listener.shutdown(socket.SHUT_RDWR)
+            try:
+                yield path
+            finally:
+                listener.shutdown(socket.SHUT_RDWR)
 
 
 NO_MEMORY = b'{"error":"no memory"}\n'
@@ -595,6 +599,39 @@ def control_without_an_answer(program: Path) -> None:
         said = f"tgdoc: {path}: no answer within 10 seconds\n".encode()
     same((found.stdout, found.stderr, found.returncode), (b"", said, 1))
     assert 9.0 < took < 20.0, f"after {took:.1f} s"
+
+
+def exporter_answers(_program: Path) -> None:
+    """The exporter answers 503 if the server answers with an error, and with the numbers of a
+    status, though a client before is silent."""
+    with socket.create_server(("127.0.0.1", 0)) as free:
+        port = free.getsockname()[1]
+    with answering(NO_MEMORY, IDLE) as path, contextlib.ExitStack() as stack:
+        words = [sys.executable, str(ROOT / "examples" / "exporter"), str(path), str(port)]
+        exporter = subprocess.Popen(words, stderr=subprocess.DEVNULL)
+        stack.callback(exporter.wait, 10)
+        stack.callback(exporter.kill)
+        until("a listener", lambda: stack.enter_context(reached(port)))
+        found = [scraped(port), scraped(port)]
+    numbers = b"tgdoc_uptime 1\ntgdoc_slots_all 8\ntgdoc_slots_free 5\ntgdoc_clients 1\n"
+    same(found, [(503, b"no memory\n"), (200, numbers)])
+
+
+def reached(port: int) -> contextlib.AbstractContextManager[socket.socket | None]:
+    """A connection to the port, if anybody listens there."""
+    try:
+        return socket.create_connection(("127.0.0.1", port), 10.0)
+    except ConnectionRefusedError:
+        return contextlib.nullcontext()
+
+
+def scraped(port: int) -> tuple[int, bytes]:
+    """The code and the text of the metrics at the port."""
+    line = http.client.HTTPConnection("127.0.0.1", port, timeout=20.0)
+    with contextlib.closing(line):
+        line.request("GET", "/metrics")
+        answer = line.getresponse()
+        return answer.status, answer.read()
 
 
 def all_attend(folder: str) -> tuple[str, ...]:
@@ -703,7 +740,7 @@ def tests() -> Tests:
     yield from named(end_while_no_answer_is_taken_at_the_control_socket, log_tells)
     yield from named(log_that_cannot_be_written, history_replays, history_that_cannot_be_written)
     yield from named(no_server_without_an_end_or_a_socket, control_subcommand)
-    yield from named(control_without_an_answer)
+    yield from named(control_without_an_answer, exporter_answers)
     yield from named(watching_ends_with_an_error, memory_refused_to_the_control_subcommand)
     yield from named(thread_refused_to_attendants, memory_refused_to_attendants)
     yield from named(idle_with_a_control_socket)
