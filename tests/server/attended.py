@@ -9,6 +9,7 @@ import os
 import pwd
 import random
 import resource
+import select
 import signal
 import socket
 import subprocess
@@ -27,7 +28,7 @@ from faults import faults
 from faults.faults import Fault, Ran
 from models.graph import Graph
 from models.reading import Event, line_of, read_config, read_step
-from running import ROOT, Process, Word, asked, ran, started
+from running import ROOT, Process, Word, asked, hear, ran, started, tell
 from server.servers import AGREED, ANY_PORT, BYE, CONFIG, CREATE, CREATED, HELLO, LOOK, PARTED, READ
 from server.servers import SEEN, WELCOME, WRITE, Server, busy_part, in_rounds, is_silent, read_all
 from server.servers import read_line, running, takes
@@ -117,6 +118,21 @@ def stop_before_anybody_came(program: Path) -> None:
     with attended(program, "--connections", "5") as server:
         same(server.ask(op="stop", within=0), {"ok": "stop"})
         same(server.end(), AGREED)
+
+
+def stop_before_the_configuration(program: Path) -> None:
+    """So does one that has not read its configuration, once it has."""
+    with tempfile.TemporaryDirectory() as folder:
+        path = f"{folder}/control"
+        how: dict[str, Any] = {"stderr": subprocess.DEVNULL}
+        with started(program, "serve", *ANY_PORT, "--control", path, **how) as process:
+            until("a socket", lambda: os.path.exists(path))
+            line, status = asked(program, "control", path, "stop", "--within", "0")
+            same((line, status), (b'{"ok":"stop"}\n', 0))
+            assert process.stdout and not select.select([process.stdout], [], [], 0.5)[0]
+            tell(process, CONFIG)
+            assert b'{"listening":' in hear(process)
+            same((process.stdout.read(), process.wait(30)), AGREED)
 
 
 def stop_while_63_clients_work(program: Path) -> None:
@@ -730,7 +746,8 @@ def stop_without_memory(program: Path) -> None:
 
 
 def tests() -> Tests:
-    yield from named(stop_while_idle, stop_before_anybody_came, stop_while_63_clients_work)
+    yield from named(stop_while_idle, stop_before_anybody_came, stop_before_the_configuration)
+    yield from named(stop_while_63_clients_work)
     yield from named(stop_while_clients_are_silent, stop_while_a_client_takes_no_answers)
     yield from named(stop_while_a_client_reads_a_little, stop_without_a_descriptor, stop_twice)
     yield from named(end_of_a_round, stop_between_rounds)
