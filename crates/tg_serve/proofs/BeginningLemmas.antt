@@ -1,5 +1,5 @@
 -- How a connection begins: its first eight bytes tell.
-use Rattle.std.proofs.Common.{◌≡◌, ◌≤◌, ◌+◌, ◌-◌, ◌||◌, ◌++◌, ◌∙◌, ℕ, List, [], ◌∷◌, take, length, min, nat_eq, length-take-le, length-append, take-take, take_at, take_all, refl, sym, ap, subst, arith}
+use Rattle.std.proofs.Common.{◌≡◌, ◌≤◌, ◌+◌, ◌-◌, ◌||◌, ◌++◌, ◌∙◌, ℕ, List, [], ◌∷◌, take, length, min, nat_eq, length-take-le, take-take, take_at, refl, sym, ap, arith}
 use Rattle.std.proofs.Math.Seq.{take-append-add}
 use Rattle.std.proofs.lemmas.List.{take_min}
 use Rattle.std.specs.List.{list_any, starts_with}

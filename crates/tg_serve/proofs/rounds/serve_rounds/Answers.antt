@@ -1,4 +1,4 @@
-use Rattle.std.proofs.Common.{◌≡◌, ◌<◌, ◌≤◌, ◌+◌, ◌-◌, ℕ, IfOk, IfSome, arith, inl, subst, sym}
+use Rattle.std.proofs.Common.{◌≡◌, ◌<◌, ◌≤◌, ◌+◌, ℕ, IfOk, IfSome, arith, inl, subst, sym}
 use Rattle.tg_vault.specs.Promise.Contents.{graph_now}
 use Rattle.tg_talk.specs.Promise.Devices.{device_of, has_failed}
 use Rattle.tg_serve.specs.Promise.Serving.{HasAgreed, IsAlone}

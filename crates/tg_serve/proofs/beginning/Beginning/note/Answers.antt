@@ -1,7 +1,6 @@
 -- The first eight bytes tell.
 use Rattle.std.proofs.Common.{◌≡◌, ◌++◌, ◌∙◌, take, sym, ap, subst, arith}
 use Rattle.tg_serve.specs.Inner.Beginning.{begins_otherwise}
-use Rattle.tg_serve.specs.declared.beginning.Beginning.TheInside.{Inside}
 use Rattle.tg_serve.specs.contracts.beginning.Beginning.{the_view, the_invariant}
 use Rattle.tg_serve.proofs.BeginningLemmas.{begins_by_eight, full_stays}
 use Rattle.tg_serve.proofs.beginning.Beginning.note.Goals.{then-self-lt-LONGEST, else-self-lt-LONGEST}
