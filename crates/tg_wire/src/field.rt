@@ -37,8 +37,16 @@ pub(crate) fn number(object: &LineObject<'_>, key: Key) -> Option<u64>
 {
     match object {
         LineObject::Flat(flat) => flat.number(key),
-        LineObject::Tree(value) => value.get(key.word()).and_then(Value::as_u64),
+        LineObject::Tree(value) => number_in(value, key),
     }
+}
+
+// What reads a tree is out of line, so that what reads a flat object can be in line.
+#[inline(never)]
+fn number_in(value: &Value, key: Key) -> Option<u64>
+    ensures { result ≡ fields.number_in (key_text key) (view value.now) }
+{
+    value.get(key.word()).and_then(Value::as_u64)
 }
 
 /// A number that may be absent.
@@ -52,6 +60,7 @@ pub(crate) fn optional_number(object: &LineObject<'_>, key: Key, default: u64) -
     }
 }
 
+#[inline(never)]
 fn optional_in(value: &Value, key: Key, default: u64) -> Option<u64>
     ensures { result ≡ fields.optional_number (key_text key) default (view value.now) }
 {
@@ -68,8 +77,15 @@ pub(crate) fn string<'o>(object: &'o LineObject<'_>, key: Key) -> Option<&'o str
 {
     match object {
         LineObject::Flat(flat) => flat.string(key),
-        LineObject::Tree(value) => value.get(key.word()).and_then(Value::as_str),
+        LineObject::Tree(value) => string_in(value, key),
     }
+}
+
+#[inline(never)]
+fn string_in(value: &Value, key: Key) -> Option<&str>
+    ensures { option_map (λ s. s.now) result ≡ fields.string_in (key_text key) (view value.now) }
+{
+    value.get(key.word()).and_then(Value::as_str)
 }
 
 /// The list in the field of this key, if there is one. A flat object has none.

@@ -186,8 +186,16 @@ fn is_line_known(op: Op, object: &LineObject<'_>) -> bool
 {
     match object {
         LineObject::Flat(flat) => flat.knows_line(op),
-        LineObject::Tree(_) => is_known(&[Key::Op, Key::Seat], op.keys(), object),
+        LineObject::Tree(_) => is_known_apart(op, object),
     }
+}
+
+/// The same out of line.
+#[inline(never)]
+fn is_known_apart(op: Op, object: &LineObject<'_>) -> bool
+    ensures { result ≡ knows_all_of (line_extras ++ (op_form op).fields) (data_of object.now) }
+{
+    is_known(&[Key::Op, Key::Seat], op.keys(), object)
 }
 
 /// The value of a step line, or its first fault: one of the seven commands that a step of a derivation may be, with its
