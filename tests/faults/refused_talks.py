@@ -466,11 +466,10 @@ def harmless(_: Path, tried: Servers) -> None:
     all_heard("nothing changes", tried)
 
 
-# With a hello and a bye a connection makes five allocations, for its three buffers, the name, and
-# the room of answers, and now and then one for the list of what connections left. So this one is
-# late.
+# With a hello and a bye a connection makes four allocations, for its three buffers and the name,
+# and now and then one for the list of what connections left. So this one is late.
 GREETING = [scripts.hello(b"alice"), scripts.alone(b"bye")]
-LATE = 5 * 80
+LATE = 4 * 80
 
 
 def greeted(program: Path, fault: Fault, options: Options = ONE_ROUND) -> tuple[int, str | None]:
@@ -493,7 +492,7 @@ def memory_refused_once_late(program: Path) -> None:
     needs before it serves a client, no further connection is taken, by no worker; if it is one of a
     talk, that talk alone ends, and everything agrees."""
     ends = []
-    for place in range(LATE, LATE + 5):
+    for place in range(LATE, LATE + 4):
         count, end = greeted(program, Fault("memory", place, place, whose="others"))
         print(f"  of 101 clients were greeted {count}: {end}")
         is_right = 60 < count < 95 if end == NOT_SETTLED else 100 <= count
