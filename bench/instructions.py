@@ -16,7 +16,8 @@ from collections import Counter
 from pathlib import Path
 
 ROOT = Path(__file__).resolve().parent.parent
-LINES = 2_000
+# From about 2,000 commands on the history is not copied as it grows, but mapped anew.
+LINES = 4_000
 OPENING = [
     '{"cells":16384,"edges":[[1,"tg",2],[2,"tg",1]],"principals":["alice","bob"],"slots":4096}',
     '{"name":"alice","op":"hello"}',

@@ -11,3 +11,4 @@ pub mod Replies
 pub mod Answers
 pub mod StepLines
 pub mod Unshared
+pub mod Memory

@@ -1,6 +1,6 @@
 //! The line that was written last.
 
-ghost use Rattle.std.specs.Prelude.{◌≡◌, ◌+◌, ◌<◌, ◌≤◌, ◌++◌, [], IfOk, OnOk, drop, length};
+ghost use Rattle.std.specs.Prelude.{◌≡◌, ◌+◌, ◌<◌, ◌≤◌, ◌++◌, [], IfErr, IfOk, OnOk, drop, length};
 ghost use Rattle.tg_wire.specs.Inner.LastLine.{line_in};
 ghost use Rattle.tg_wire.specs.declared.last_line.TheConstants.{SHORT_LINE};
 
@@ -56,7 +56,8 @@ impl LastLine {
 
     /// The line, in a vector of its own: `AllocError` if a short one lacks memory for that.
     pub(crate) fn into_vec(self) -> Result<Vec<u8>, AllocError>
-        ensures { IfOk result (λ line. line.items ≡ line_in self) }
+        ensures line { IfOk result (λ line. line.items ≡ line_in self) }
+        ensures short { IfErr result (λ _. length (line_in self) ≤ SHORT_LINE) }
     {
         let LastLine {
             short,

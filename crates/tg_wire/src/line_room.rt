@@ -69,7 +69,7 @@ impl Model for LineRoom {
 }
 
 impl LineRoom {
-    ghost use Rattle.std.specs.Prelude.{◌≡◌, [], IfOk};
+    ghost use Rattle.std.specs.Prelude.{◌≡◌, ◌≤◌, [], IfErr, IfOk, length};
 
     /// No line, and no room yet. Allocates nothing.
     pub fn new(alloc: Global) -> LineRoom
@@ -89,10 +89,11 @@ impl LineRoom {
         self.last.get()
     }
 
-    /// The line that was written last, which is all that is kept. `AllocError` if it took no memory yet, and a vector
-    /// for it cannot be allocated.
+    /// The line that was written last, which is all that is kept. `AllocError` if it is a short one, of at most 96
+    /// bytes, which took no memory yet, and a vector for it cannot be allocated.
     pub fn into_line(self) -> Result<Vec<u8>, AllocError>
-        ensures { IfOk result (λ line. line.items ≡ self) }
+        ensures line { IfOk result (λ line. line.items ≡ self) }
+        ensures short { IfErr result (λ _. length self ≤ 96) }
     {
         let LineRoom { last, texts } = self;
         drop(texts);

@@ -1,10 +1,11 @@
 //! From a reply, an answer, a cycle or a verdict to its line. The keys of a line are in rising order.
 
-ghost use Rattle.std.specs.Prelude.{◌≡◌, ◌++◌, IfOk, OnOk, codes};
+ghost use Rattle.std.specs.Prelude.{◌≡◌, ◌++◌, IfOk, OnErr, OnOk, codes};
 ghost use Rattle.std.specs.Bool.{OnTrue};
 ghost use Rattle.json.specs.Print.{escape};
 ghost use Rattle.serde_json.specs.Data.{array, object, member, no_members, string, number, unsigned};
 ghost use Rattle.tg_wire.specs.Promise.Faults.{line_text, seat_fault_text as text_of_seat_fault, ask_fault_text as text_of_ask_fault};
+ghost use Rattle.tg_wire.specs.Promise.Memory.{MayAskForAnswer, MayAskForCause, MayAskForReply};
 ghost use Rattle.tg_wire.specs.Promise.Replies.{edges_data, which_text as text_of_which, rule_text, denied_data, reply_line};
 ghost use Rattle.tg_wire.specs.Inner.LastLine.{line_in};
 ghost use Rattle.tg_wire.specs.Inner.Told.{led_text};
@@ -37,10 +38,11 @@ pub fn write_reply(alloc: Global, reply: &Reply) -> Result<Vec<u8>, AllocError>
 }
 
 /// The same, in room that is kept from line to line. `AllocError` if an allocation failed; nothing is then known of the
-/// room's line.
+/// room's line. That something is done, or made, or denied for missing rights takes no memory.
 #[inline(always)]
 pub fn write_reply_in(room: &mut LineRoom, reply: &Reply) -> Result<(), AllocError>
-    ensures { OnOk result (room.new ≡ reply_line reply.now) }
+    ensures line { OnOk result (room.new ≡ reply_line reply.now) }
+    ensures memory { OnErr result (MayAskForReply reply.now) }
 {
     put_reply(&mut room.last, reply)
 }
@@ -48,7 +50,8 @@ pub fn write_reply_in(room: &mut LineRoom, reply: &Reply) -> Result<(), AllocErr
 #[inline(always)]
 #[tactic(auto, unfolding(crate::specs::Promise::Replies::reply_line, crate::proofs::Literals::numbers_on_literals))]
 fn put_reply(line: &mut LastLine, reply: &Reply) -> Result<(), AllocError>
-    ensures { OnOk result (line_in line.new ≡ reply_line reply.now) }
+    ensures line { OnOk result (line_in line.new ≡ reply_line reply.now) }
+    ensures memory { OnErr result (MayAskForReply reply.now) }
 {
     match reply {
         Reply::Done => line.put(b"{\"ok\":\"done\"}\n"),
@@ -115,10 +118,12 @@ pub fn write_answer(alloc: Global, answer: &Answer) -> Result<Vec<u8>, AllocErro
     room.into_line()
 }
 
-/// The same, in room that is kept, and with the error of `write_reply_in`.
+/// The same, in room that is kept, and with the error of `write_reply_in`. All answers but those to commands, and the
+/// faults, take no memory.
 #[inline(always)]
 pub fn write_answer_in(room: &mut LineRoom, answer: &Answer) -> Result<(), AllocError>
-    ensures { OnOk result (room.new ≡ answer_line answer.now) }
+    ensures line { OnOk result (room.new ≡ answer_line answer.now) }
+    ensures memory { OnErr result (MayAskForAnswer answer.now) }
 {
     put_answer(&mut room.last, answer)
 }
@@ -126,7 +131,8 @@ pub fn write_answer_in(room: &mut LineRoom, answer: &Answer) -> Result<(), Alloc
 #[inline(always)]
 #[tactic(auto, unfolding(crate::specs::Promise::Answers::answer_line, crate::specs::Promise::Replies::reply_line, crate::proofs::Literals::numbers_on_literals))]
 fn put_answer(line: &mut LastLine, answer: &Answer) -> Result<(), AllocError>
-    ensures { OnOk result (line_in line.new ≡ answer_line answer.now) }
+    ensures line { OnOk result (line_in line.new ≡ answer_line answer.now) }
+    ensures memory { OnErr result (MayAskForAnswer answer.now) }
 {
     match answer {
         Answer::Hello(vertex) => {
@@ -214,7 +220,8 @@ fn step_line(room: &mut LineRoom, step: u64, verdict: &str) -> Result<(), AllocE
 /// The line of a denial for this cause.
 #[tactic(auto, unfolding(crate::proofs::Literals::numbers_on_literals))]
 fn put_denied(line: &mut LastLine, rule: Rule, cause: Cause) -> Result<(), AllocError>
-    ensures { OnOk result (line_in line.new ≡ line_text (denied_data rule cause)) }
+    ensures line { OnOk result (line_in line.new ≡ line_text (denied_data rule cause)) }
+    ensures memory { OnErr result (MayAskForCause cause) }
 {
     match cause {
         Cause::Retired => put_denied_for(line, rule, "retired"),
