@@ -9,6 +9,7 @@ pub mod StopsLemmas
 pub mod NumbersLemmas
 pub mod FlatLemmas
 pub mod ObjectLineLemmas
+mod AsciiLemmas
 mod BeforeLemmas
 mod DeniedLemmas
 mod EdgesLemmas

@@ -1,6 +1,7 @@
 //! The lines of the protocol: from JSON to events, steps, goals and configurations, and from answers to JSON.
 #![tactic(auto)]
 
+mod ascii;
 mod before;
 mod config;
 mod decoded;

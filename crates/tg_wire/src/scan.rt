@@ -14,6 +14,7 @@ ghost use Rattle.serde_json.specs.Read.{number_of};
 ghost use Rattle.tg_wire.specs.Inner.Keys.{key_text};
 ghost use Rattle.tg_wire.specs.Inner.Runs.{EndsRun, front};
 
+use crate::ascii::is_ascii;
 use crate::key::Key;
 use crate::unescaped::Unescaped;
 use std::simd::prelude::*;
@@ -21,13 +22,13 @@ use std::simd::prelude::*;
 /// The greatest number that may get another digit: with a zero it is below 2 ^ 64.
 const MOST_BEFORE_A_DIGIT: u64 = 1_844_674_407_370_955_161;
 
-/// The bytes as a text, if they are UTF-8. Nearly all lines are ASCII, which is found out eight bytes at a time.
+/// The bytes as a text, if they are UTF-8. Nearly all lines are ASCII.
 #[inline(always)]
 pub(crate) fn text_of(bytes: &[u8]) -> Option<&str>
     ensures same { IfSome result (λ text. text.now ≡ bytes.now) }
     ensures utf8 { IfSome result (λ text. IsUtf8 bytes.now) }
 {
-    if bytes.is_ascii() {
+    if is_ascii(bytes) {
         return Some(unsafe { std::str::from_utf8_unchecked(bytes) });
     }
     std::str::from_utf8(bytes).ok()

@@ -36,3 +36,7 @@ pub record SpellsCharacter (line : List ℕ) (at c : ℕ) : Type 0 where
   pub fourth : IsHex line (at + 3) f
   pub is : c ≡ a * 4096 + b * 256 + e * 16 + f
   pub scalar : IsScalar c
+
+-- each byte between two places is ASCII
+abbrev pub AsciiBetween : List ℕ → ℕ → ℕ → Type 0
+AsciiBetween bytes from end = (at : ℕ) → from ≤ at → at < end → get_or bytes at 0 < 128
