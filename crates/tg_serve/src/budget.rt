@@ -174,7 +174,9 @@ impl Budget {
 
     /// Gives back what was set aside, once its lines are answered.
     pub(crate) fn give_back(&self, bytes: u64) {
-        self.set_aside.fetch_sub(bytes, Ordering::SeqCst);
+        if bytes > 0 {
+            self.set_aside.fetch_sub(bytes, Ordering::SeqCst);
+        }
     }
 }
 

@@ -10,6 +10,7 @@ use crate::door::tick;
 use crate::request::Likeness;
 use crate::tally::Tally;
 use crate::waiting::{Waited, Waiting, too_long};
+use memchr::memchr_iter;
 use std::alloc::{AllocError, Global};
 use std::io;
 use std::io::{ErrorKind, Read, Write};
@@ -128,9 +129,6 @@ impl<'a, D: Read + Drop, C: Clock> ClientReader<'a, D, C> {
             if self.beginning.note(&buf[..count]) || self.likeness.note(&buf[..count]) {
                 return Err(io::Error::from(ErrorKind::InvalidData));
             }
-            if buf[..count].contains(&b'\n') {
-                self.waiting.end();
-            }
             return Ok(count);
         }
         Ok(0)
@@ -175,6 +173,9 @@ impl<D: Read + Drop, C: Clock> Read for ClientReader<'_, D, C> {
         };
         let bytes = &buf[..count];
         let found = count_lines(bytes);
+        if found > 0 {
+            self.waiting.end();
+        }
         let SetAside {
             lines,
             bytes: set_aside,
@@ -195,7 +196,7 @@ impl<D: Read + Drop, C: Clock> Read for ClientReader<'_, D, C> {
 
 /// How many line feeds there are.
 fn count_lines(bytes: &[u8]) -> u64 {
-    bytes.iter().filter(|byte| **byte == b'\n').count() as u64
+    memchr_iter(b'\n', bytes).count() as u64
 }
 
 /// The place behind so many line feeds, or the end.
