@@ -12,14 +12,14 @@ pub(crate) fn is_ascii(bytes: &[u8]) -> bool
     ensures { OnTrue result (AsciiBetween bytes.now 0 (length bytes.now)) }
 {
     let len = bytes.len();
-    if len > 64 {
-        ascii_long(bytes)
-    } else if len >= 32 {
-        ascii_32(bytes, 0) && ascii_32(bytes, len - 32)
-    } else if len >= 16 {
-        ascii_16(bytes, 0) && ascii_16(bytes, len - 16)
-    } else {
+    if len < 16 {
         bytes.is_ascii()
+    } else if len <= 32 {
+        ascii_16(bytes, 0) && ascii_16(bytes, len - 16)
+    } else if len <= 64 {
+        ascii_32(bytes, 0) && ascii_32(bytes, len - 32)
+    } else {
+        ascii_long(bytes)
     }
 }
 

@@ -77,8 +77,10 @@ fn read_members<'a>(
     let mut at = from;
     loop {
         let (member, end) = read_member(line, at, &mut room)?;
+        // Behind the next call it would be read anew, though it is known from the look for spaces.
+        let mark = byte_at(bytes, end);
         found.add(member)?;
-        match byte_at(bytes, end) {
+        match mark {
             b',' => at = end + 1,
             b'}' => return Some(end + 1),
             _ => return None,

@@ -14,7 +14,7 @@ loop-member-preserved c =
     let found = c.in_ok-member.ensures.found in
     let member = c.in_ok-member.member in
     let end = c.in_ok-member.end in
-    let is_comma : get_or d end 32 ≡ 44 = ap (λ t. get_or t end 32) (sym c.as_bytes-bytes.ensures.value) ∙ sym c.byte_at.ensures ∙ c.in-44.is in (
+    let is_comma : get_or d end 32 ≡ 44 = ap (λ t. get_or t end 32) (sym c.as_bytes-bytes.ensures.value) ∙ sym c.byte_at-mark.ensures ∙ c.in-44.is in (
       omega (arith, within d end 44 is_comma (λ z. omega arith)),
       (
         front.0 ++ (key_text member.key, found.0) ∷ [],
@@ -31,7 +31,7 @@ returns-in-125-clause-found c =
     let found = c.in_ok-member.ensures.found in
     let member = c.in_ok-member.member in
     let end = c.in_ok-member.end in
-    let is_brace : get_or d end 32 ≡ 125 = ap (λ t. get_or t end 32) (sym c.as_bytes-bytes.ensures.value) ∙ sym c.byte_at.ensures ∙ c.in-125.is in
+    let is_brace : get_or d end 32 ≡ 125 = ap (λ t. get_or t end 32) (sym c.as_bytes-bytes.ensures.value) ∙ sym c.byte_at-mark.ensures ∙ c.in-125.is in
     record {
       front = front.0;
       key = key_text member.key;
