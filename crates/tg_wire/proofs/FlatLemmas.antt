@@ -1,8 +1,6 @@
 -- A flat object: from the lexemes of its members to its value, and what is found in it.
-use Rattle.std.proofs.Common.{◌≡◌, ℕ, ◌+◌, ◌-◌, ◌<◌, ◌≤◌, get_or, take, length, List, [], ◌∷◌, ◌++◌, Option, Some, None, IfSome, Ordering, Less, Equal, Greater, nat_cmp, is_eq, ◌&&◌, Bool, true, false, true≢false, max, option_map, option_and_then, drop, bytes_eq, refl, sym, ap, ◌∙◌, arith, append-nil}
+use Rattle.std.proofs.Common.{◌≡◌, ℕ, List, [], ◌∷◌, ◌++◌, Option, Some, None, IfSome, Ordering, Less, Equal, Greater, nat_cmp, is_eq, ◌&&◌, Bool, true, false, true≢false, max, option_map, option_and_then, drop, bytes_eq, refl, sym, ap, ◌∙◌, arith, append-nil}
 use Rattle.std.proofs.Math.Bool.{and-true}
-use Rattle.std.proofs.lemmas.List.{take_more}
-use Rattle.std.proofs.Math.Seq.{take-length}
 use Rattle.std.specs.Prelude.{⊤}
 use Rattle.std.specs.List.{list_all}
 use Rattle.std.specs.Cmp.Lexicographic.{slice_cmp}

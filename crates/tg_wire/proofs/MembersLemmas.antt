@@ -1,5 +1,5 @@
 -- The members of a flat object, and the last one of each key.
-use Rattle.std.proofs.Common.{◌≡◌, ◌==◌, ℕ, zero, suc, ◌*◌, ◌-◌, ◌^◌, ◌≤◌, ◌<◌, max, Bool, true, false, true≢false, not, ◌&&◌, cond, List, [], ◌∷◌, ◌++◌, Option, Some, None, length, get_or, set, bytes_eq, bit_and, bit_or, eqb-true, eq-eqb, ne_eqb, get_or-set_same, get_or-set_other, refl, sym, ap, ◌∙◌, subst, zero-mul, arith}
+use Rattle.std.proofs.Common.{◌≡◌, ◌==◌, ℕ, zero, suc, ◌*◌, ◌-◌, ◌^◌, ◌≤◌, ◌<◌, max, Bool, true, false, true≢false, not, ◌&&◌, cond, List, [], ◌∷◌, ◌++◌, Option, Some, None, length, get_or, set, bytes_eq, bit_and, bit_or, eqb-true, eq-eqb, ne_eqb, get_or-set_same, get_or-set_other, refl, sym, ap, ◌∙◌, zero-mul, arith}
 use Rattle.std.specs.Int.{bit_at}
 use Rattle.std.specs.List.{list_all}
 use Rattle.std.proofs.lemmas.List.Folds.{list_all-append}

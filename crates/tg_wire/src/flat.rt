@@ -1,7 +1,7 @@
 //! A line's object in which each key is one that some line has, and each member a text or a whole number, as a list of
 //! its members; and how it is read if at most one text has escapes, none of them a surrogate.
 
-ghost use Rattle.std.specs.Prelude.{◌≡◌, ◌<◌, ◌≤◌, ◌∷◌, ◌++◌, [], Some, IfSome, OnSome, option_map, length, drop, if◌then◌else◌};
+ghost use Rattle.std.specs.Prelude.{◌≡◌, ◌<◌, ◌≤◌, ◌∷◌, ◌++◌, [], Some, IfSome, OnSome, option_map, length, drop, get_or, if◌then◌else◌};
 ghost use Rattle.std.specs.Str.{bytes_eq};
 ghost use Rattle.std.specs.List.{list_all};
 ghost use Rattle.json.specs.Token.{Token, string};
@@ -77,7 +77,7 @@ fn read_members<'a>(
     let mut at = from;
     loop {
         let (member, end) = read_member(line, at, &mut room)?;
-        // Behind the next call it would be read anew, though it is known from the look for spaces.
+        // Read later, the byte would be read twice: the look for spaces has read it.
         let mark = byte_at(bytes, end);
         found.add(member)?;
         match mark {
@@ -104,19 +104,27 @@ fn read_member<'a>(
     let quote = place_of(bytes, from, b'"')?;
     let (key, after) = read_key(bytes, quote)?;
     let between = place_of(bytes, after, b':')?;
-    let (value, end) = read_value(line, spaces_end(bytes, between + 1), room)?;
+    let start = spaces_end(bytes, between + 1);
+    let first = byte_at(bytes, start);
+    let (value, end) = read_value(line, start, first, room)?;
     Some((Member { key, value }, spaces_end(bytes, end)))
 }
 
-/// The value at a place, and the place after it.
+/// The value at a place, which begins with this byte, and the place after it.
 #[inline(always)]
-fn read_value<'a>(line: &'a str, at: usize, room: &mut TextRoom<'a>) -> Option<(Plain<'a>, usize)>
-    requires { at ≤ length line.now }
+fn read_value<'a>(
+    line: &'a str,
+    at: usize,
+    first: u8,
+    room: &mut TextRoom<'a>,
+) -> Option<(Plain<'a>, usize)>
+    requires place { at ≤ length line.now }
+    requires first { get_or line.now at 32 ≡ first }
     ensures found { IfSome result (λ r. (t : Token) × Spells t r.0
         × (lex between (drop at line.now) ≡ token t ∷ lex between (drop r.1 line.now))) }
     ensures bounds { IfSome result (λ r. (at < r.1) × (r.1 ≤ length line.now)) }
 {
-    if byte_at(line.as_bytes(), at) == b'"' {
+    if first == b'"' {
         if let Some((text, after)) = read_text(line, at) {
             return Some((Plain::Text(text), after));
         }

@@ -176,17 +176,15 @@ pub(crate) fn read_key(bytes: &[u8], quote: usize) -> Option<(Key, usize)>
     Some((key, quote + key.word().len() + 2))
 }
 
-/// The text at a place, if one without escapes is there, and the place after it.
+/// The text after the quote at a place, if one without escapes is there, and the place after it.
 #[inline(always)]
 pub(crate) fn read_text<'a>(line: &'a str, quote: usize) -> Option<(Unescaped<'a>, usize)>
-    requires { quote ≤ length line.now }
+    requires bound { quote < length line.now }
+    requires opens { get_or line.now quote 32 ≡ 34 }
     ensures found { IfSome result (λ r. lex between (drop quote line.now) ≡ token (string r.0.text.now) ∷ lex between (drop r.1 line.now)) }
     ensures bounds { IfSome result (λ r. (quote < r.1) × (r.1 ≤ length line.now)) }
 {
     let bytes = line.as_bytes();
-    if byte_at(bytes, quote) != b'"' {
-        return None;
-    }
     let end = plain_end(bytes, quote + 1);
     if byte_at(bytes, end) != b'"' {
         return None;

@@ -1,4 +1,3 @@
-use Rattle.std.proofs.Common.{◌≡◌}
 use Rattle.tg_wire.proofs.LexemesLemmas.{spaces_at}
 use Rattle.tg_wire.proofs.scan.place_of.Goals as goal
 

@@ -13,7 +13,7 @@ pub range-requires-clause-start_boundary : goal.range-requires-clause-start_boun
 range-requires-clause-start_boundary c some =
     let d = c.args.line.now in
     let i = c.args.quote in
-    let opens : get_or d i 32 ≡ 34 = ap (λ t. get_or t i 32) (sym c.as_bytes-bytes.ensures.value) ∙ sym c.byte_at.ensures ∙ c.if-byte_at-ne34.false in
+    let opens : get_or d i 32 ≡ 34 = c.requires.opens in
     IsCharBoundary-after_ascii d i c.utf8.line (within d i 34 opens (λ z. omega arith)) (omega (arith, get_or_default d i 0 32 (within d i 34 opens (λ z. omega arith)), opens))
 
 pub new-requires : goal.new-requires
@@ -28,7 +28,7 @@ returns-clause-found c =
     let d = c.args.line.now in
     let i = c.args.quote in
     let same = c.as_bytes-bytes.ensures.value in
-    let opens : get_or d i 32 ≡ 34 = ap (λ t. get_or t i 32) (sym same) ∙ sym c.byte_at.ensures ∙ c.if-byte_at-ne34.false in
-    let closes : get_or d c.plain_end-end.result 32 ≡ 34 = ap (λ t. get_or t c.plain_end-end.result 32) (sym same) ∙ sym c.byte_at-2.ensures ∙ c.if-byte_at-ne34-2.false in
+    let opens : get_or d i 32 ≡ 34 = c.requires.opens in
+    let closes : get_or d c.plain_end-end.result 32 ≡ 34 = ap (λ t. get_or t c.plain_end-end.result 32) (sym same) ∙ sym c.byte_at.ensures ∙ c.if-byte_at-ne34.false in
     let ends : EndsAt is_plain d (i + 1) c.plain_end-end.result = subst (λ t. EndsAt is_plain t (i + 1) c.plain_end-end.result) same c.plain_end-end.ensures.value in
     text_at d i c.plain_end-end.result opens ends closes ∙ ap (λ s. token (string s) ∷ lex between (drop (c.plain_end-end.result + 1) d)) (sym c.range.ensures.value ∙ sym c.new.ensures)
