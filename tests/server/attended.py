@@ -1,6 +1,7 @@
 """Servers that are attended: asked at the control socket, logged, and with a history."""
 
 import contextlib
+import fcntl
 import functools
 import http.client
 import itertools
@@ -529,6 +530,52 @@ def history_that_cannot_be_written(program: Path) -> None:
         same(server.said().count(b"/dev/full/steps"), 1)
 
 
+def history_without_room(program: Path) -> None:
+    """A history that runs out of room ends in the middle of a line, and nothing is added once there
+    is room again."""
+    step = line_of({"actor": 1, "kind": "document", "op": "create", "rights": "rw"}) + b"\n"
+    whole = 40 * step
+    room = len(whole) // 2 + 5
+    limit = functools.partial(resource.setrlimit, resource.RLIMIT_FSIZE, (room, room))
+    how: dict[str, Any] = {"preexec_fn": limit, "restore_signals": False, "config": LARGE}
+    with tempfile.TemporaryDirectory() as folder:
+        path = Path(folder) / "steps"
+        with attended(program, "--round", "1", "--history", str(path), **how) as server:
+            server.exchange(HELLO + 40 * CREATE + BYE)
+            until("a part of a round", lambda: path.read_bytes() == whole[:room])
+            time.sleep(0.2)
+            path.write_bytes(b"")
+            server.exchange(HELLO + CREATE + BYE)
+            until("the third round", lambda: server.status()["round"] == 3)
+            server.stop((in_rounds(40, 1)[0], 1))
+            same(path.read_bytes(), b"")
+            same(server.said().count(bytes(path)), 1)
+
+
+def output_that_nobody_reads(program: Path) -> None:
+    """A server whose output nobody reads waits between two rounds once the pipe is full, though it
+    hears of a stop, and goes on as soon as somebody reads."""
+    with attended(program, "--round", "1") as server:
+        assert server.process.stdout
+        fcntl.fcntl(server.process.stdout, fcntl.F_SETPIPE_SZ, 4096)
+        served = greeted_until_silent(server)
+        same(server.ask(op="stop", within=0), {"ok": "stop"})
+        time.sleep(1.0)
+        assert server.process.poll() is None, "it has ended"
+        same(server.end(), in_rounds(*served * [0]))
+
+
+def greeted_until_silent(server: Attended) -> int:
+    """How many clients were greeted before one that was not."""
+    for count in range(1_000):
+        with server.connection() as one:
+            one.sendall(HELLO + BYE)
+            if is_silent(one, 2.0):
+                return count
+            same(read_all(one), WELCOME + PARTED)
+    raise AssertionError("all were greeted")
+
+
 def log_that_cannot_be_written(program: Path) -> None:
     """A log that cannot be written hurts nobody."""
     with open("/dev/full", "wb") as full:
@@ -756,6 +803,7 @@ def tests() -> Tests:
     yield from named(hostile_lines_at_the_control_socket, slow_at_the_control_socket)
     yield from named(end_while_no_answer_is_taken_at_the_control_socket, log_tells)
     yield from named(log_that_cannot_be_written, history_replays, history_that_cannot_be_written)
+    yield from named(history_without_room, output_that_nobody_reads)
     yield from named(no_server_without_an_end_or_a_socket, control_subcommand)
     yield from named(control_without_an_answer, exporter_answers)
     yield from named(watching_ends_with_an_error, memory_refused_to_the_control_subcommand)
