@@ -14,7 +14,7 @@ pub enum Place {
 
 /// What is done at a pause. The lock is free, and any other call may take it.
 pub trait Gate {
-    /// Called between two holds of the lock, at this place. It may wait, and a talk returns only if it does.
+    /// Called between two holds of the lock, at this place. It may wait; a talk returns only if this call does.
     fn pause<R: Wait + Clock>(&self, rt: &R, place: Place);
 
     /// Called with the reply to a command that was entered, after its pause, when its target is not yet shaded. Does

@@ -5,7 +5,7 @@
 pub enum TalkFault {
     /// A read returned an error.
     Reading,
-    /// A write returned an error, or took 0 bytes of some.
+    /// A write returned an error, or took 0 bytes of some, or `pay` failed.
     Writing,
     /// A line has more than 16,384 bytes.
     TooLong,

@@ -48,7 +48,7 @@ impl Model for InputLines {
 
 impl InputLines {
     ghost use Rattle.std.specs.Prelude.{◌≡◌, ◌⊎◌, ◌+◌, ◌<◌, ◌≤◌, ◌↔◌, length, [], IfOk, IfSome, true, false};
-    ghost use Rattle.std.specs.Io.KnownBytes.{prepend_known};
+    ghost use Rattle.std.specs.Io.KnownBytes.{Keeps, prepend_known};
     ghost use Rattle.tg_talk.specs.declared.line_buffer.TheConstants.{MOST_LINES};
     ghost use Rattle.tg_wire.specs.declared.line.TheConstants.{LONGEST_LINE};
     ghost use Rattle.tg_talk.specs.Promise.Devices.{device_of, has_failed};
@@ -102,7 +102,8 @@ impl InputLines {
         ensures few { result ≡ Next.Line → self.new.taken ≤ MOST_LINES }
         ensures over { result ≡ Next.TooMany → self.old.taken ≡ MOST_LINES }
         ensures short { length self.new.line ≤ LONGEST_LINE }
-        ensures empty { result ≡ Next.End → self.new.line ≡ [] }
+        ensures empty { (result ≡ Next.End) ⊎ ((result ≡ Next.Failed) ⊎ (result ≡ Next.TooLong)) → self.new.line ≡ [] }
+        ensures kept { result ≡ Next.Failed → Keeps (prepend_known self.old.left (R.remaining (device_of reader.old))) (prepend_known self.new.left (R.remaining (device_of reader.new))) }
         ensures failed { (has_failed reader.new ≡ true) ↔ (result ≡ Next.Failed) }
         ensures at_hand { is_decided self.old.left ≡ true → reader.new ≡ reader.old }
         ensures none { (result ≡ Next.End) ⊎ (result ≡ Next.Failed) → is_decided self.old.left ≡ false }

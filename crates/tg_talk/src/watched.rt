@@ -8,8 +8,8 @@ ghost use Rattle.tg_talk.specs.Promise.Devices.{device_of, has_failed, owed, pro
 use std::io;
 use std::io::{BufWriter, Read, Write};
 
-/// A reader or a writer, and whether a read or a write on it has failed: whether one returned an error, or a write took
-/// 0 bytes of some. Once it has failed, that stays noted.
+/// A reader or a writer, and whether a read or a write on it has failed: whether one returned an error, a write took 0
+/// bytes of some, or `pay` failed. Once it has failed, that stays noted.
 #[derive(Drop)]
 pub struct Watched<D> {
     device: D,
