@@ -114,6 +114,15 @@ def stop_while_idle(program: Path) -> None:
         assert not server.path.exists(), "the socket is left"
 
 
+def stop_beside_another(program: Path) -> None:
+    """A server whose socket was moved away leaves that of another alone, which took its path."""
+    with tempfile.TemporaryDirectory() as folder, attended(program, folder=folder) as first:
+        first.path = first.path.rename(f"{folder}/moved")
+        with attended(program, folder=folder) as second:
+            first.stop()
+            second.stop()
+
+
 def stop_before_anybody_came(program: Path) -> None:
     """So does one at which nobody was."""
     with attended(program, "--connections", "5") as server:
@@ -794,6 +803,7 @@ def stop_without_memory(program: Path) -> None:
 
 def tests() -> Tests:
     yield from named(stop_while_idle, stop_before_anybody_came, stop_before_the_configuration)
+    yield from named(stop_beside_another)
     yield from named(stop_while_63_clients_work)
     yield from named(stop_while_clients_are_silent, stop_while_a_client_takes_no_answers)
     yield from named(stop_while_a_client_reads_a_little, stop_without_a_descriptor, stop_twice)

@@ -7,9 +7,10 @@ ghost use Rattle.tg_serve.specs.Promise.Serving.{IsServed};
 use crate::attended::{keep_history, keep_log};
 use crate::saying::{say_no_memory, say_no_thread};
 use std::alloc::{AllocError, Global};
-use std::fs::Files;
+use std::fs::{Files, Metadata};
 use std::io::{Eprint, Read, Write};
 use std::net::Net;
+use std::os::unix::fs::MetadataExt;
 use std::os::unix::net::UnixListener;
 use std::process::ExitCode;
 use std::rt::Clock;
@@ -56,7 +57,7 @@ fn socket_at<N: Files + Net + Eprint, W: Write>(
 }
 
 /// Serves clients as asked, and requests at the control socket at this path, as `serve_attended` does. Afterwards the
-/// socket's file is gone.
+/// file of its socket is gone.
 pub(crate) fn serve_at_socket<N: Platform + Files + Eprint, R: Read, W: Write>(
     rt: &N,
     host: &HostRuntime,
@@ -71,10 +72,21 @@ pub(crate) fn serve_at_socket<N: Platform + Files + Eprint, R: Read, W: Write>(
     let Some(listener) = socket_at(rt, host.alloc(), writer, path) else {
         return ExitCode::FAILURE;
     };
+    let made = fs::symlink_metadata(rt, path).ok();
     let status = serve_attended(rt, host, reader, writer, asked, Some(&listener));
-    // While the socket is open, no other server takes its name.
-    let _ = fs::remove_file(rt, path);
+    // If the file was moved away, another server may have started at the same path.
+    if !is_another(rt, path, made) {
+        let _ = fs::remove_file(rt, path);
+    }
     status
+}
+
+/// Whether another file than the one that was made is known to be at the path.
+fn is_another<N: Files>(rt: &N, path: &str, made: Option<Metadata>) -> bool {
+    match (made, fs::symlink_metadata(rt, path)) {
+        (Some(made), Ok(found)) => found.dev() != made.dev() || found.ino() != made.ino(),
+        _ => false,
+    }
 }
 
 /// Serves clients as asked, with a log and a history if these are asked for, and a control socket if one is given.
