@@ -1,7 +1,7 @@
 //! The control socket: one line in, one line out, for those who operate the server.
 
 use crate::desk::{Desk, milliseconds};
-use crate::door::{is_tick, tick};
+use crate::door::{is_in_vain, tick};
 use crate::status::{Serving, status_line};
 use serde_json::Value;
 use std::alloc::Global;
@@ -93,7 +93,7 @@ fn serve_turn<R: Wait + Clock>(
                     break;
                 }
             }
-            Err(error) if is_tick(&error) => {}
+            Err(error) if is_in_vain(&error) => {}
             Err(_) => break,
         }
     }
@@ -145,7 +145,7 @@ fn send<C: Clock>(clock: &C, stream: &UnixStream, desk: &Desk, bytes: &[u8], end
         match device.write(rest) {
             Ok(0) => return false,
             Ok(count) => sent = sent.saturating_add(count),
-            Err(error) if is_tick(&error) && !desk.has_ended() => {}
+            Err(error) if is_in_vain(&error) && !desk.has_ended() => {}
             Err(_) => return false,
         }
     }

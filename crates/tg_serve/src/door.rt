@@ -126,6 +126,11 @@ pub(crate) fn is_tick(error: &io::Error) -> bool {
     matches!(error.kind(), ErrorKind::WouldBlock | ErrorKind::TimedOut)
 }
 
+/// Whether a call only waited: for a tick, or until a signal interrupted it.
+pub(crate) fn is_in_vain(error: &io::Error) -> bool {
+    is_tick(error) || error.kind() == ErrorKind::Interrupted
+}
+
 /// The system's numbers for: too many files open in the system, too many in the process, no room for a buffer, no
 /// memory.
 const WANTS: [i32; 4] = [23, 24, 105, 12];

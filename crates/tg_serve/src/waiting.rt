@@ -2,7 +2,7 @@
 ghost use Rattle.std.specs.Prelude.{◌≡◌, ℕ, IfOk, Ok};
 ghost use Rattle.tg_serve.specs.declared.waiting.Waited.TheVariants as Waited;
 
-use crate::door::{is_tick, tick};
+use crate::door::{is_in_vain, tick};
 use std::io;
 use std::io::ErrorKind;
 use std::rt::Clock;
@@ -90,9 +90,7 @@ impl Waiting {
         self.waited = self.waited.saturating_add(waited);
         match came {
             Ok(count) => Ok(Waited::Moved(count)),
-            Err(error) if is_tick(&error) || error.kind() == ErrorKind::Interrupted => {
-                Ok(Waited::InVain)
-            }
+            Err(error) if is_in_vain(&error) => Ok(Waited::InVain),
             Err(error) => Err(error),
         }
     }

@@ -1,6 +1,6 @@
 //! How long a client that cannot be accepted is tried again, and for which failures.
 
-use crate::door::{Rests, is_tick, is_want};
+use crate::door::{Rests, is_in_vain, is_tick, is_want};
 use std::io;
 use std::io::ErrorKind;
 
@@ -44,5 +44,13 @@ fn only_want_of_descriptors_or_memory_is_tried_again(rt: HostRuntime) {
 fn a_tick_is_no_failure(rt: HostRuntime) {
     assert!(rt; is_tick(&io::Error::from_raw_os_error(11)));
     assert!(rt; is_tick(&io::Error::from(ErrorKind::TimedOut)));
+    assert!(rt; !is_tick(&io::Error::from_raw_os_error(4)));
     assert!(rt; !is_tick(&io::Error::from_raw_os_error(104)));
+}
+
+#[test]
+fn ticks_and_signals_are_waits_in_vain(rt: HostRuntime) {
+    assert!(rt; is_in_vain(&io::Error::from_raw_os_error(11)));
+    assert!(rt; is_in_vain(&io::Error::from_raw_os_error(4)));
+    assert!(rt; !is_in_vain(&io::Error::from_raw_os_error(104)));
 }
