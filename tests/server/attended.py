@@ -260,6 +260,34 @@ def end_of_a_round(program: Path) -> None:
         server.stop(in_rounds(1))
 
 
+def late_as_a_round_ends(program: Path) -> None:
+    """Who connects just after a round was told to end is served in the next one, and stays."""
+    for _ in range(5):
+        with attended(program, "--workers", "2") as server:
+            server.ask(op="end round", within=0)
+            time.sleep(0.1)
+            with server.seated() as one:
+                for _ in range(3):
+                    time.sleep(0.5)
+                    one.sendall(LOOK)
+                    same(read_line(one), SEEN)
+            server.stop(in_rounds(0))
+
+
+def late_as_a_server_stops(program: Path) -> None:
+    """Who connects just after a server was told to stop does not hold it up, and is not counted:
+    the connection ends with the server."""
+    for _ in range(5):
+        with contextlib.ExitStack() as stack:
+            server = stack.enter_context(attended(program, "--workers", "2", "--log"))
+            server.ask(op="stop", within=0)
+            time.sleep(0.1)
+            with takes(0, 5):
+                same(greeting(server, stack), b"")
+                same(server.end(), AGREED)
+            same(server.errors(), [{"round": 1, "connections": 0, "entries": 0}])
+
+
 def stop_between_rounds(program: Path) -> None:
     """A stop that comes as a round ends, or between two, ends the server all the same."""
     for _ in range(5):
@@ -808,6 +836,7 @@ def tests() -> Tests:
     yield from named(stop_while_clients_are_silent, stop_while_a_client_takes_no_answers)
     yield from named(stop_while_a_client_reads_a_little, stop_without_a_descriptor, stop_twice)
     yield from named(end_of_a_round, stop_between_rounds)
+    yield from named(late_as_a_round_ends, late_as_a_server_stops)
     yield from named(stop_without_memory, status_tells, status_of_a_client_without_a_buffer)
     yield from named(no_control_socket, killed_and_started_again, another_user_is_refused)
     yield from named(hostile_lines_at_the_control_socket, slow_at_the_control_socket)

@@ -5,6 +5,7 @@ import functools
 import resource
 import subprocess
 import tempfile
+import time
 from collections.abc import Iterator
 from concurrent.futures import ThreadPoolExecutor
 from pathlib import Path
@@ -21,6 +22,7 @@ from server.servers import (
     Server,
     figure,
     figure_in,
+    in_rounds,
     is_silent,
     pour,
     read_all,
@@ -107,6 +109,18 @@ def memory_beside_a_flood(program: Path) -> None:
     assert count > 0 and first.endswith(b',"round":1}\n'), first
 
 
+def late_once_memory_is_used_up(program: Path) -> None:
+    """Who connects just after the memory of a round is used up is served in the next one, and
+    counts there alone."""
+    for gap in (0.0, 0.05, 0.1, 0.2):
+        bounds = ("--memory", "320", "--round", "2")
+        with served(program, 2, 3, *bounds, ends=in_rounds(1)) as server:
+            same(server.exchange(HELLO + CREATE), WELCOME + MADE)
+            time.sleep(gap)
+            server.greet()
+            server.greet()
+
+
 def memory_while_a_client_takes_no_answers(program: Path) -> None:
     """A client that takes no answers does not hold up the end of a round whose memory is used up;
     the next round serves."""
@@ -188,5 +202,6 @@ def memory_is_said(program: Path) -> None:
 
 def tests() -> Tests:
     yield from named(memory_that_reads_fill, memory_that_looks_fill, memory_beside_a_flood)
-    yield from named(memory_while_a_client_takes_no_answers, memory_is_said, descriptors_warned_of)
-    yield from named(descriptors_that_are_short, descriptors_that_never_come)
+    yield from named(memory_while_a_client_takes_no_answers, late_once_memory_is_used_up)
+    yield from named(memory_is_said, descriptors_warned_of, descriptors_that_are_short)
+    yield from named(descriptors_that_never_come)

@@ -27,6 +27,8 @@ const LONGEST_REST: u64 = 500;
 #[derive(Drop)]
 pub(crate) struct Door<'a> {
     listener: &'a TcpListener,
+    /// A client that came while the door of an earlier round was being closed: it is taken before all others.
+    late: &'a Mutex<Option<TcpStream>>,
     left: Mutex<u64>,
     is_closed: AtomicBool,
 }
@@ -42,17 +44,23 @@ pub(crate) enum Taken {
 
 impl<'a> Door<'a> {
     /// A door at which this many connections are left.
-    pub(crate) fn new(listener: &'a TcpListener, connections: u64) -> Door<'a> {
+    pub(crate) fn new(
+        listener: &'a TcpListener,
+        late: &'a Mutex<Option<TcpStream>>,
+        connections: u64,
+    ) -> Door<'a> {
         Door {
             listener,
+            late,
             left: Mutex::new(connections),
             is_closed: AtomicBool::new(false),
         }
     }
 
-    /// Waits for a client, and takes it from the connections left. None once none is left or the door is closed. One
-    /// that cannot be accepted for lack of descriptors or memory is tried again for ten seconds, with growing rests,
-    /// before it counts as a connection; one that fails otherwise counts at once.
+    /// Waits for a client, and takes it from the connections left. None once none is left or the door is closed; a
+    /// client that comes while it is being closed is left to the next round. One that cannot be accepted for lack of
+    /// descriptors or memory is tried again for ten seconds, with growing rests, before it counts as a connection; one
+    /// that fails otherwise counts at once.
     pub(crate) fn take<R: Wait + Clock>(&self, rt: &R) -> Option<Taken> {
         let mut left = self.left.lock(rt);
         let mut rests = Rests::new();
@@ -60,12 +68,12 @@ impl<'a> Door<'a> {
             if *left == 0 || self.is_closed() {
                 return None;
             }
+            if let Some(stream) = self.take_late(rt) {
+                return self.let_in(rt, &mut left, stream);
+            }
             let start = milliseconds(rt);
             match self.listener.accept() {
-                Ok((stream, _)) => {
-                    *left = left.saturating_sub(1);
-                    return Some(Taken::Client(stream));
-                }
+                Ok((stream, _)) => return self.let_in(rt, &mut left, stream),
                 Err(error) if is_tick(&error) => rest_since(rt, start),
                 Err(error) if is_want(&error) && rests.rest(rt) => {}
                 Err(_) => {
@@ -75,6 +83,28 @@ impl<'a> Door<'a> {
             }
         }
         None
+    }
+
+    /// Takes a client who has come from the connections left, or leaves it to the next round if the door is closed by
+    /// now. There is no other such client: one that was there has been taken before another is accepted.
+    pub(crate) fn let_in<R: Wait>(
+        &self,
+        rt: &R,
+        left: &mut u64,
+        stream: TcpStream,
+    ) -> Option<Taken> {
+        if self.is_closed() {
+            *self.late.lock(rt) = Some(stream);
+            return None;
+        }
+        *left = left.saturating_sub(1);
+        Some(Taken::Client(stream))
+    }
+
+    /// The client that an earlier round has left, if there is one.
+    fn take_late<R: Wait>(&self, rt: &R) -> Option<TcpStream> {
+        let mut late = self.late.lock(rt);
+        late.take()
     }
 
     /// Lets nobody in any more.

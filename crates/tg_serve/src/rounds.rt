@@ -17,8 +17,8 @@ use std::io::Write;
 use std::marker::Brand;
 use std::net::TcpListener;
 use std::rt::Clock;
-use std::sync::Wait;
 use std::sync::ledger::Blank;
+use std::sync::{Mutex, Wait};
 use std::thread::Threads;
 use tg_graph::Graph;
 use tg_share::PARTS;
@@ -103,6 +103,7 @@ pub fn serve_operated<R: Threads + Wait + Clock + Sync, W: Write>(
         rt,
         alloc,
         listener,
+        late: Mutex::new(None),
         workers,
         operating,
         desk,
@@ -110,6 +111,7 @@ pub fn serve_operated<R: Threads + Wait + Clock + Sync, W: Write>(
     let is_announced = announce_in_ticks(writer, listener);
     let size = at_least_one(round);
     let found = serve_rounds(&service, writer, is_announced, vault, connections, size);
+    leave_late(&service);
     let served = conclude(writer, is_announced, &found);
     keep_last(&service, found);
     served
@@ -122,6 +124,12 @@ fn announce_in_ticks<W: Write>(writer: &mut Watched<W>, listener: &TcpListener) 
     ensures announced { result ≡ true → Announces (W.contents (device_of writer.old)) (W.contents (device_of writer.new)) }
 {
     end_accepts_in_ticks(listener).is_ok() && announce(writer, listener)
+}
+
+/// Ends the connection of a client that came while the door of the last round was being closed, if one did.
+fn leave_late<R: Wait>(service: &Service<'_, R>) {
+    let mut late = service.late.lock(service.rt);
+    *late = None;
 }
 
 /// Leaves the history of the last round at the desk, if it was settled.
@@ -184,7 +192,7 @@ fn serve_rounds<R: Threads + Wait + Clock + Sync, W: Write>(
     let mut number = 1u64;
     'rounds: for _ in service.rt.forever() {
         let size = size_of(service, left, round);
-        let door = Door::new(service.listener, size);
+        let door = Door::new(service.listener, &service.late, size);
         service.desk.begin_round(number);
         let (found, logs, graph) = serve_round::<Brand, R>(
             service,

@@ -13,9 +13,9 @@ use crate::pace::{Assisting, Pace, REST};
 use std::alloc::{AllocError, Global};
 use std::net::{TcpListener, TcpStream};
 use std::rt::Clock;
-use std::sync::Wait;
 use std::sync::atomic::{AtomicBool, Ordering};
 use std::sync::ledger::{Blank, Ledger};
+use std::sync::{Mutex, Wait};
 use std::thread;
 use std::thread::Threads;
 use std::time::Duration;
@@ -60,6 +60,8 @@ pub(crate) struct Service<'a, R> {
     pub(crate) rt: &'a R,
     pub(crate) alloc: Global,
     pub(crate) listener: &'a TcpListener,
+    /// A client that came while the door of a round was being closed, until the next round takes it.
+    pub(crate) late: Mutex<Option<TcpStream>>,
     pub(crate) workers: u64,
     pub(crate) operating: Operating,
     pub(crate) desk: &'a Desk,

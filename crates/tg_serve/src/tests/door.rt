@@ -1,8 +1,10 @@
-//! How long a client that cannot be accepted is tried again, and for which failures.
+//! How long a client that cannot be accepted is tried again, and for which failures; and who comes late.
 
-use crate::door::{Rests, is_in_vain, is_tick, is_want};
+use crate::door::{Door, Rests, Taken, is_in_vain, is_tick, is_want};
 use std::io;
 use std::io::ErrorKind;
+use std::net::{TcpListener, TcpStream};
+use std::sync::Mutex;
 
 /// The rests in milliseconds, each twice the one before, up to half a second.
 const FIRST: [u64; 11] = [1, 2, 4, 8, 16, 32, 64, 128, 256, 500, 500];
@@ -53,4 +55,28 @@ fn ticks_and_signals_are_waits_in_vain(rt: HostRuntime) {
     assert!(rt; is_in_vain(&io::Error::from_raw_os_error(11)));
     assert!(rt; is_in_vain(&io::Error::from_raw_os_error(4)));
     assert!(rt; !is_in_vain(&io::Error::from_raw_os_error(104)));
+}
+
+/// A client that comes while the door of a round is being closed is the first of the next round, though another one
+/// waits, and counts there alone.
+#[test]
+fn who_comes_late_is_in_the_next_round(rt: HostRuntime) -> io::Result<()> {
+    let listener = TcpListener::bind(&rt, "127.0.0.1:0")?;
+    let address = listener.local_addr()?;
+    let late = Mutex::new(None);
+    let door = Door::new(&listener, &late, 3);
+    let _early = TcpStream::connect(&rt, address)?;
+    let (stream, _) = listener.accept()?;
+    door.close();
+    let mut left = 3;
+    assert!(rt; door.let_in(&rt, &mut left, stream).is_none());
+    assert_eq!(rt; left, 3);
+    let _waiting = TcpStream::connect(&rt, address)?;
+    let next = Door::new(&listener, &late, 3);
+    assert!(rt; matches!(next.take(&rt), Some(Taken::Client(_))));
+    assert!(rt; late.lock(&rt).is_none());
+    assert_eq!(rt; next.left(&rt), 2);
+    assert!(rt; matches!(next.take(&rt), Some(Taken::Client(_))));
+    assert_eq!(rt; next.left(&rt), 1);
+    Ok(())
 }

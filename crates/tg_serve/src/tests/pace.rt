@@ -12,8 +12,8 @@ use std::io;
 use std::marker::Brand;
 use std::net::TcpListener;
 use std::rt::Clock;
-use std::sync::Wait;
 use std::sync::ledger::{Blank, Ledger};
+use std::sync::{Mutex, Wait};
 use tg_rights::{Command, Kind, Reply, Rights};
 use tg_share::{PARTS, Session, Shared, Worked};
 use tg_vault::{Room, Vault};
@@ -142,7 +142,8 @@ fn made_and_dropped<L: Ledger, R: Wait + Clock>(
 {
     let shared = Shared::<L>::new(alloc, blank, vault);
     let budget = Budget::new(None, 1);
-    let door = Door::new(listener, 1);
+    let late = Mutex::new(None);
+    let door = Door::new(listener, &late, 1);
     let desk = Desk::unattended(alloc);
     let gate = Assisting {
         shared: &shared,
