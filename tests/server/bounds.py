@@ -137,9 +137,11 @@ def memory_while_a_client_takes_no_answers(program: Path) -> None:
 
 
 @contextlib.contextmanager
-def short(program: Path, files: int, warning: str, *words: str) -> Iterator[Server]:
+def short(
+    program: Path, files: int, warning: str, *words: str, logged: str = ""
+) -> Iterator[Server]:
     """A server whose process may have so many files open; if there is a warning, standard error has
-    it, and else none."""
+    it, and else none; and it has what was logged."""
     fewer = functools.partial(resource.setrlimit, resource.RLIMIT_NOFILE, (files, files))
     how: dict[str, Any] = {"preexec_fn": fewer, "stderr": subprocess.PIPE}
     with running(program, *ANY_PORT, *words, **how) as process:
@@ -149,6 +151,7 @@ def short(program: Path, files: int, warning: str, *words: str) -> Iterator[Serv
         assert process.stderr
         said = process.stderr.read().decode()
         assert warning in said and bool(warning) == ("open files" in said), said
+        assert logged in said, said
 
 
 def descriptors_warned_of(program: Path) -> None:
@@ -182,8 +185,9 @@ def descriptors_that_are_short(program: Path) -> None:
 
 
 def descriptors_that_never_come(program: Path) -> None:
-    """A connection that cannot be accepted for ten seconds counts."""
-    with takes(9.5, 30), short(program, 4, "the limit is 4", "--connections", "1"):
+    """A connection that cannot be accepted for ten seconds counts, and is logged."""
+    words, logged = ("--connections", "1", "--log"), '"lines":0,"ended":"reading"'
+    with takes(9.5, 30), short(program, 4, "the limit is 4", *words, logged=logged):
         pass
 
 

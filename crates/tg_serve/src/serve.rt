@@ -229,12 +229,12 @@ fn serve_one<L: Ledger, R: Wait + Clock>(
 ) -> Result<(), AllocError> {
     round.desk.welcome(round.rt, seat);
     let Taken::Client(stream) = taken else {
-        let _ = round.desk.part(round.rt, seat, 0, None);
+        see_off(round, seat, 0, Some(TalkFault::Reading));
         return Ok(());
     };
     let _ = stream.set_nodelay(true);
     if end_reads_and_writes_in_ticks(&stream).is_err() {
-        let _ = round.desk.part(round.rt, seat, 0, None);
+        see_off(round, seat, 0, Some(TalkFault::Reading));
         return Ok(());
     }
     match talk_with(round, seat, &stream) {
