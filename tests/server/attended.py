@@ -471,6 +471,21 @@ def errors_of(server: Attended, sent: bytes) -> int:
     return sum(line.startswith(b'{"error"') for line in answers.splitlines())
 
 
+def stopped_by_a_signal_at_the_control_socket(program: Path) -> None:
+    """Who is connected to the control socket is answered though the server's process was stopped
+    meanwhile, as a job of a shell is."""
+    with attended(program) as server:
+        with server.attendant() as one:
+            for _ in range(3):
+                time.sleep(0.3)
+                server.process.send_signal(signal.SIGSTOP)
+                time.sleep(0.3)
+                server.process.send_signal(signal.SIGCONT)
+            one.sendall(b'{"op":"status"}\n')
+            assert b'"uptime":' in read_line(one), "no answer"
+        server.stop()
+
+
 def end_while_no_answer_is_taken_at_the_control_socket(program: Path) -> None:
     """A client at the socket that takes no answers does not hold up the end of the server."""
     with attended(program) as server, server.attendant() as one:
@@ -840,6 +855,7 @@ def tests() -> Tests:
     yield from named(stop_without_memory, status_tells, status_of_a_client_without_a_buffer)
     yield from named(no_control_socket, killed_and_started_again, another_user_is_refused)
     yield from named(hostile_lines_at_the_control_socket, slow_at_the_control_socket)
+    yield from named(stopped_by_a_signal_at_the_control_socket)
     yield from named(end_while_no_answer_is_taken_at_the_control_socket, log_tells)
     yield from named(log_that_cannot_be_written, history_replays, history_that_cannot_be_written)
     yield from named(history_without_room, output_that_nobody_reads)
