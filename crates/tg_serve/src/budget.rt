@@ -82,7 +82,7 @@ pub(crate) struct Budget {
     set_aside: AtomicU64,
     /// How many exchanges there have been.
     exchanges: AtomicU64,
-    /// At the last look at the vault, how many edges there were, and how many exchanges there had been.
+    /// At the last look at the vault, how many edges there were, and how many exchanges there had been before it.
     edges: AtomicU64,
     looked: AtomicU64,
 }
@@ -106,12 +106,17 @@ impl Budget {
         self.bound.is_some()
     }
 
-    /// Notes how many edges there are in the vault.
-    pub(crate) fn look(&self, room: Room) {
+    /// How many exchanges there have been, if there is a bound.
+    pub(crate) fn exchanges(&self) -> u64 {
+        self.exchanges.load(Ordering::SeqCst)
+    }
+
+    /// Notes how many edges there are in the vault, and how many exchanges there had been before that was seen: in this
+    /// order, so that whoever finds the new number of exchanges finds the edges that belong to it.
+    pub(crate) fn look(&self, room: Room, exchanges: u64) {
         if self.is_bounded() {
-            self.looked
-                .store(self.exchanges.load(Ordering::SeqCst), Ordering::SeqCst);
             self.edges.store(room.cells.saturating_sub(room.free_cells), Ordering::SeqCst);
+            self.looked.store(exchanges, Ordering::SeqCst);
         }
     }
 

@@ -181,8 +181,9 @@ fn collect_until<L: Ledger, R: Wait + Clock>(round: &Round<'_, L, R>, is_over: &
         if is_over.load(Ordering::SeqCst) {
             break;
         }
+        let exchanges = round.budget.exchanges();
         let room = round.shared.room(rt);
-        round.budget.look(room);
+        round.budget.look(room, exchanges);
         let steps = pace.steps(room);
         let worked = round.shared.collector(rt, steps, &Open);
         pace.learn(worked);

@@ -90,13 +90,29 @@ fn lines_are_set_aside(rt: HostRuntime) {
     let unseen = budget.set_aside(20);
     assert_eq!(rt; (unseen.lines, unseen.bytes), (1, 2_097_440));
     budget.give_back(unseen.bytes);
-    budget.look(EMPTY);
+    budget.look(EMPTY, 0);
     let first = budget.set_aside(4);
     assert_eq!(rt; (first.lines, first.bytes), (4, 257_280));
     let second = budget.set_aside(20);
     assert_eq!(rt; (second.lines, second.bytes), (6, 385_920));
     let third = budget.set_aside(20);
     assert_eq!(rt; (third.lines, third.bytes), (1, 64_320));
+}
+
+/// An exchange that was not counted before the look may have added an edge that was not seen: 320 + 32 * 2,001 = 64,352
+/// for a line.
+#[test]
+fn an_exchange_beside_the_look_counts_as_an_edge(rt: HostRuntime) {
+    let budget = Budget::new(Some(643_200), 1);
+    let before = budget.exchanges();
+    let _ = budget.keep(&Command::leave(), &Reply::Done);
+    budget.look(EMPTY, before);
+    let taken = budget.set_aside(1);
+    assert_eq!(rt; (taken.lines, taken.bytes), (1, 64_352));
+    budget.give_back(taken.bytes);
+    budget.look(EMPTY, budget.exchanges());
+    let taken = budget.set_aside(1);
+    assert_eq!(rt; (taken.lines, taken.bytes), (1, 64_320));
 }
 
 const NONE: SetAside = SetAside { lines: 0, bytes: 0 };
