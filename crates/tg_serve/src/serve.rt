@@ -137,7 +137,8 @@ struct Round<'a, L: Ledger, R> {
 }
 
 /// The workers and the collector, each in a thread of its own, beside which what the round before has left is dropped.
-/// Returns the ended sessions of all connections; `None` if an allocation or the start of a thread failed.
+/// Returns the ended sessions of all connections; `None` if an allocation or the start of a thread failed. There is room
+/// for the handles of all workers before one begins, so the collector ends after all of them.
 fn serve_in_threads<L: Ledger + Send + Sync, R: Threads + Wait + Clock + Sync>(
     round: &Round<'_, L, R>,
     workers: u64,
@@ -146,7 +147,9 @@ fn serve_in_threads<L: Ledger + Send + Sync, R: Threads + Wait + Clock + Sync>(
     let is_over = AtomicBool::new(false);
     let over = &is_over;
     thread::scope(thread::scope_env(), round.rt, |scope| {
-        let mut shifts = Vec::new(round.alloc);
+        let Ok(mut shifts) = Vec::with_capacity(round.alloc, workers as usize) else {
+            return None;
+        };
         let mut is_short = scope.spawn(move || collect_until(round, over)).is_err();
         for seat in 0..workers {
             if is_short {
