@@ -425,13 +425,20 @@ impl Desk {
     }
 }
 
-/// Brings a time forward to this many seconds from now, if that is earlier.
+/// Brings a time forward to this many seconds from now, if that is earlier, also if somebody else does so meanwhile.
 fn lower<C: Clock>(due: &AtomicU64, clock: &C, within: u64) {
     let asked = milliseconds(clock)
         .saturating_add(within.saturating_mul(1_000))
         .min(NEVER - 1);
-    if asked < due.load(Ordering::SeqCst) {
-        due.store(asked, Ordering::SeqCst);
+    let mut found = due.load(Ordering::SeqCst);
+    for _ in 0..u64::MAX {
+        if asked >= found {
+            return;
+        }
+        match due.compare_exchange(found, asked, Ordering::SeqCst, Ordering::SeqCst) {
+            Ok(_) => return,
+            Err(now) => found = now,
+        }
     }
 }
 
