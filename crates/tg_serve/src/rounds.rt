@@ -57,10 +57,10 @@ pub fn serve_on<R: Threads + Wait + Clock + Sync, W: Write>(
 }
 
 /// Serves this many connections in rounds of `round` (0 is taken as 1): none of the next round is taken before all of
-/// this one have ended. Each of the `workers`, 1 to 63, has a seat of its own, and a collector runs. After a round the
-/// logs are settled. If they agree and connections are left, the vault is rebased, and the next round begins with what
-/// lives; until then clients wait. A connection that cannot be accepted counts as one; if descriptors or memory are
-/// lacking it is tried again for ten seconds first.
+/// this one have ended. Each of the `workers`, 1 to 63 (0 is taken as 1), has a seat of its own, and a collector runs.
+/// After a round the logs are settled. If they agree and connections are left, the vault is rebased, and the next round
+/// begins with what lives; until then clients wait. A connection that cannot be accepted counts as one; if descriptors
+/// or memory are lacking it is tried again for ten seconds first.
 ///
 /// It writes the address before the first connection, and after each rebase how many entries were dropped, and the
 /// round, from 1. The last line is `agreed`; or, in a round that ends the server, `differs`, with the least seat whose
@@ -99,6 +99,7 @@ pub fn serve_operated<R: Threads + Wait + Clock + Sync, W: Write>(
     requires writes { has_failed writer.old ≡ false }
     ensures { result.settled ≡ true → IsServed operating connections round (W.contents (device_of writer.old)) (W.contents (device_of writer.new)) (has_failed writer.new) }
 {
+    let workers = at_least_one(workers);
     let service = Service {
         rt,
         alloc,

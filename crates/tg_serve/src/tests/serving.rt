@@ -120,16 +120,17 @@ fn ask(
     Ok(answers)
 }
 
-/// A server and a client at once: the server's result, and the answers to the client.
+/// A server of so many workers and a client at once: the server's result, and the answers to the client.
 fn serve_and_ask(
     rt: &impl Platform,
     alloc: Global,
     listener: &TcpListener,
     address: SocketAddr,
+    workers: u64,
 ) -> (Option<(Served, Vec<u8>)>, io::Result<Vec<u8>>) {
     thread::join(
         rt,
-        || serve_clients(rt, alloc, listener, 2, 1),
+        || serve_clients(rt, alloc, listener, workers, 1),
         || ask(rt, alloc, address, TALK),
     )
 }
@@ -147,7 +148,7 @@ fn wanted(alloc: Global, talk: &[Line]) -> Result<Vec<u8>, AllocError> {
 fn one_client_over_the_loopback(rt: HostRuntime) -> io::Result<()> {
     let listener = TcpListener::bind(&rt, "127.0.0.1:0")?;
     let address = listener.local_addr()?;
-    let (served, answers) = serve_and_ask(&rt, rt.alloc(), &listener, address);
+    let (served, answers) = serve_and_ask(&rt, rt.alloc(), &listener, address, 2);
     let (served, out) = served.expect(&rt, "refused");
     assert!(rt; answers? == wanted(rt.alloc(), TALK)?);
     assert!(rt; served.settled);
@@ -155,6 +156,18 @@ fn one_client_over_the_loopback(rt: HostRuntime) -> io::Result<()> {
         "{{\"listening\":\"{address}\"}}\n{{\"settled\":\"agreed\"}}\n"
     )?;
     assert!(rt; out.as_slice() == told.as_bytes());
+    Ok(())
+}
+
+/// A server without workers has one.
+#[test]
+fn no_worker_is_taken_as_one(rt: HostRuntime) -> io::Result<()> {
+    let listener = TcpListener::bind(&rt, "127.0.0.1:0")?;
+    let address = listener.local_addr()?;
+    let (served, answers) = serve_and_ask(&rt, rt.alloc(), &listener, address, 0);
+    let (served, _) = served.expect(&rt, "refused");
+    assert!(rt; answers? == wanted(rt.alloc(), TALK)?);
+    assert!(rt; served.settled);
     Ok(())
 }
 
