@@ -20,7 +20,7 @@ use std::sync::atomic::Ordering;
 
 /// The worker at which a client is served, and the desk to which it tells of it.
 #[derive(Clone, Copy, Drop)]
-pub(crate) struct Seat<'a> {
+pub(crate) struct Post<'a> {
     pub(crate) desk: &'a Desk,
     pub(crate) worker: u64,
 }
@@ -42,7 +42,7 @@ pub(crate) struct ClientReader<'a, D, C> {
     device: D,
     clock: &'a C,
     budget: &'a Budget,
-    seat: Seat<'a>,
+    post: Post<'a>,
     waiting: Waiting,
     beginning: Beginning,
     likeness: Likeness,
@@ -60,7 +60,7 @@ impl<D: Drop, C> Drop for ClientReader<'_, D, C> {
             device,
             clock: _,
             budget,
-            seat: _,
+            post: _,
             waiting: _,
             beginning: _,
             likeness: _,
@@ -82,7 +82,7 @@ impl<'a, D: Read + Drop, C: Clock> ClientReader<'a, D, C> {
         device: D,
         clock: &'a C,
         budget: &'a Budget,
-        seat: Seat<'a>,
+        post: Post<'a>,
         patience: Option<u64>,
     ) -> Result<ClientReader<'a, D, C>, AllocError> {
         let room = if budget.is_bounded() { CHUNK } else { 0 };
@@ -91,7 +91,7 @@ impl<'a, D: Read + Drop, C: Clock> ClientReader<'a, D, C> {
             device,
             clock,
             budget,
-            seat,
+            post,
             waiting: Waiting::new(patience),
             beginning: Beginning::new(),
             likeness: Likeness::new(),
@@ -111,7 +111,7 @@ impl<'a, D: Read + Drop, C: Clock> ClientReader<'a, D, C> {
     {
         let most = buf.len().min(CHUNK);
         for _ in 0..u64::MAX {
-            let course = self.seat.desk.course();
+            let course = self.post.desk.course();
             if self.budget.is_spent() || course == Course::Over {
                 return Ok(0);
             }
@@ -186,8 +186,8 @@ impl<D: Read + Drop, C: Clock> Read for ClientReader<'_, D, C> {
         } else {
             count
         };
-        if self.seat.desk.has_places() && lines > 0 {
-            self.seat.desk.hear(self.clock, self.seat.worker, lines);
+        if self.post.desk.has_places() && lines > 0 {
+            self.post.desk.hear(self.clock, self.post.worker, lines);
         }
         self.keep_rest(bytes, end)?;
         Ok(end)
@@ -224,7 +224,7 @@ pub(crate) struct ClientWriter<'a, D, C> {
     device: D,
     clock: &'a C,
     budget: &'a Budget,
-    seat: Seat<'a>,
+    post: Post<'a>,
     tally: Tally,
     waiting: Waiting,
 }
@@ -235,14 +235,14 @@ impl<'a, D: Write, C: Clock> ClientWriter<'a, D, C> {
         device: D,
         clock: &'a C,
         budget: &'a Budget,
-        seat: Seat<'a>,
+        post: Post<'a>,
         patience: Option<u64>,
     ) -> ClientWriter<'a, D, C> {
         ClientWriter {
             device,
             clock,
             budget,
-            seat,
+            post,
             tally: Tally::new(),
             waiting: Waiting::new(patience),
         }
@@ -250,12 +250,12 @@ impl<'a, D: Write, C: Clock> ClientWriter<'a, D, C> {
 
     /// Whether the round takes no more lines.
     fn takes_no_more_lines(&self) -> bool {
-        self.budget.is_spent() || self.seat.desk.course() == Course::Over
+        self.budget.is_spent() || self.post.desk.course() == Course::Over
     }
 
     /// Tells the desk what these answers are.
     fn tell(&mut self, bytes: &[u8]) {
-        let desk = self.seat.desk;
+        let desk = self.post.desk;
         let tallied = self.tally.note(bytes);
         desk.counts
             .refused
@@ -265,7 +265,7 @@ impl<'a, D: Write, C: Clock> ClientWriter<'a, D, C> {
             .fetch_add(tallied.denied, Ordering::SeqCst);
         desk.counts.full.fetch_add(tallied.full, Ordering::SeqCst);
         if let Some(principal) = tallied.greeted {
-            desk.greet(self.seat.worker, principal);
+            desk.greet(self.post.worker, principal);
         }
     }
 }
@@ -282,7 +282,7 @@ impl<D: Write, C: Clock> Write for ClientWriter<'_, D, C> {
             let start = self.waiting.start(self.clock)?;
             let result = self.device.write(buf);
             if let Waited::Moved(count) = self.waiting.note(self.clock, start, result)? {
-                if self.seat.desk.has_places() {
+                if self.post.desk.has_places() {
                     self.tell(buf.get(..count).unwrap_or(buf));
                 }
                 return Ok(count);

@@ -14,7 +14,7 @@ use std::{io, thread};
 const TICK: u64 = 250;
 
 /// For how long, in milliseconds, a client that cannot be accepted for lack of descriptors or memory is tried again.
-const MOST_RESTS: u64 = 10_000;
+const LONGEST_RESTING: u64 = 10_000;
 
 /// How long to rest between two looks at a listener that does not wait, in milliseconds.
 const REST: u64 = 50;
@@ -186,7 +186,7 @@ impl Rests {
 
     /// The next rest, in milliseconds; none after ten seconds of them.
     pub(crate) fn take(&mut self) -> Option<u64> {
-        if self.done >= MOST_RESTS {
+        if self.done >= LONGEST_RESTING {
             return None;
         }
         let rest = self.next;

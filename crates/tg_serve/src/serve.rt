@@ -5,7 +5,7 @@ ghost use Rattle.tg_vault.specs.Promise.Contents.{graph_now};
 ghost use Rattle.tg_serve.specs.Promise.Serving.{EndsServer, HasAgreed, IsFound, found_of};
 
 use crate::budget::Budget;
-use crate::client::{ClientReader, ClientWriter, Seat, end_reads_and_writes_in_ticks};
+use crate::client::{ClientReader, ClientWriter, Post, end_reads_and_writes_in_ticks};
 use crate::desk::{Course, Desk, Notice};
 use crate::door::{Door, Taken};
 use crate::operating::Operating;
@@ -258,13 +258,13 @@ fn talk_with<L: Ledger, R: Wait + Clock>(
     stream: &TcpStream,
 ) -> Result<Option<Ended<L>>, AllocError> {
     let (rt, alloc, patience) = (round.rt, round.alloc, round.operating.patience);
-    let place = Seat {
+    let post = Post {
         desk: round.desk,
         worker: seat,
     };
-    let reader = ClientReader::new(alloc, stream, rt, round.budget, place, patience)?;
+    let reader = ClientReader::new(alloc, stream, rt, round.budget, post, patience)?;
     let mut reader = Watched::new(reader);
-    let writer = ClientWriter::new(stream, rt, round.budget, place, patience);
+    let writer = ClientWriter::new(stream, rt, round.budget, post, patience);
     let mut writer = buffered(alloc, writer)?;
     let gate = Assisting {
         shared: round.shared,

@@ -1,7 +1,7 @@
 //! Clients that keep a server waiting, on a clock that goes as a script says.
 
 use crate::budget::Budget;
-use crate::client::{ClientReader, ClientWriter, Seat};
+use crate::client::{ClientReader, ClientWriter, Post};
 use crate::desk::Desk;
 use std::alloc::{AllocError, Global};
 use std::io;
@@ -136,8 +136,8 @@ fn reads_at(
 ) -> Result<(Vec<usize>, bool), AllocError> {
     let clock = Hands::new();
     let device = Scripted::new(&clock, steps);
-    let seat = Seat { desk, worker: 0 };
-    let mut reader = ClientReader::new(alloc, device, &clock, budget, seat, patience)?;
+    let post = Post { desk, worker: 0 };
+    let mut reader = ClientReader::new(alloc, device, &clock, budget, post, patience)?;
     let mut counts = Vec::new(alloc);
     let mut buf = [0u8; 16];
     for _ in 0..100u32 {
@@ -322,11 +322,11 @@ fn reads_once(alloc: Global, budget: &Budget) -> Result<usize, AllocError> {
     let clock = Hands::new();
     let device = Scripted::new(&clock, LINES);
     let desk = Desk::unattended(alloc);
-    let seat = Seat {
+    let post = Post {
         desk: &desk,
         worker: 0,
     };
-    let mut reader = ClientReader::new(alloc, device, &clock, budget, seat, None)?;
+    let mut reader = ClientReader::new(alloc, device, &clock, budget, post, None)?;
     let mut buf = [0u8; 16];
     Ok(reader.read(&mut buf).unwrap_or(0))
 }
@@ -403,8 +403,8 @@ fn writes_at(
 ) -> (usize, bool) {
     let clock = Hands::new();
     let device = Scripted::new(&clock, steps);
-    let seat = Seat { desk, worker: 0 };
-    let mut writer = ClientWriter::new(device, &clock, budget, seat, patience);
+    let post = Post { desk, worker: 0 };
+    let mut writer = ClientWriter::new(device, &clock, budget, post, patience);
     let mut written = 0usize;
     for _ in 0..100u32 {
         match writer.write(b"0123456789abcdef") {
