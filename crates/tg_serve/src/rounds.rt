@@ -239,7 +239,12 @@ fn size_of<R>(service: &Service<'_, R>, left: u64, round: u64) -> u64
 
 /// How many connections are left after a round that could take so many of them: all of those were taken, unless
 /// something else ended it; and one at least, unless whoever attends ended it.
-fn left_after<R: Wait>(service: &Service<'_, R>, door: &Door<'_>, left: u64, size: u64) -> u64
+pub(crate) fn left_after<R: Wait>(
+    service: &Service<'_, R>,
+    door: &Door<'_>,
+    left: u64,
+    size: u64,
+) -> u64
     ensures counted { IsCounted service.now.operating → result ≡ left - size }
     ensures few { left ≤ result + size }
     ensures no_more { result ≤ left }

@@ -1,14 +1,16 @@
 //! A server and a client over the loopback, and addresses that are not listened on.
 
-use crate::rounds::conclude;
-use crate::serve::Unsettled;
-use crate::{Platform, Served, serve_lines, serve_on};
+use crate::desk::Desk;
+use crate::door::Door;
+use crate::rounds::{conclude, left_after};
+use crate::serve::{Service, Unsettled};
+use crate::{Operating, Platform, Served, serve_lines, serve_on};
 use std::alloc::{AllocError, Global};
 use std::io::{Read, Write};
 use std::net::{Net, SocketAddr, TcpListener, TcpStream};
 use std::random::RandomSource;
 use std::rt::Clock;
-use std::sync::Wait;
+use std::sync::{Mutex, Wait};
 use std::thread::Threads;
 use std::{io, thread};
 use tg_talk::Watched;
@@ -324,4 +326,43 @@ fn agreed_logs_are_told(rt: HostRuntime) {
     let (out, is_settled) = told(rt.alloc(), false, Ok(vault));
     assert!(rt; out.is_empty());
     assert!(rt; !is_settled);
+}
+
+/// Whether a server has a bound on memory, is attended, and is without an end; how many of the five connections of a
+/// round were not taken; and how many are left of ten.
+const LEFT: &[(bool, bool, bool, u64, u64)] = &[
+    (false, false, false, 0, 5),
+    (true, false, false, 0, 5),
+    (true, false, false, 3, 8),
+    (true, false, false, 5, 9),
+    (false, true, false, 3, 8),
+    (true, true, false, 5, 10),
+    (true, true, true, 3, 10),
+];
+
+/// What a round has not taken that its memory or an attendant ended is left.
+#[test]
+fn what_a_round_has_not_taken_is_left(rt: HostRuntime) -> io::Result<()> {
+    let listener = TcpListener::bind(&rt, "127.0.0.1:0")?;
+    let desk = Desk::unattended(rt.alloc());
+    for (is_bounded, is_attended, is_endless, not_taken, left) in LEFT {
+        let operating = Operating {
+            memory: if *is_bounded { Some(320) } else { None },
+            is_attended: *is_attended,
+            is_endless: *is_endless,
+            ..Operating::none()
+        };
+        let service = Service {
+            rt: &rt,
+            alloc: rt.alloc(),
+            listener: &listener,
+            late: Mutex::new(None),
+            workers: 1,
+            operating,
+            desk: &desk,
+        };
+        let door = Door::new(&listener, &service.late, *not_taken);
+        assert_eq!(rt; left_after(&service, &door, 10, 5), *left);
+    }
+    Ok(())
 }
