@@ -265,7 +265,7 @@ def late_as_a_round_ends(program: Path) -> None:
     for _ in range(5):
         with attended(program, "--workers", "2") as server:
             server.ask(op="end round", within=0)
-            time.sleep(0.1)
+            time.sleep(0.15)
             with server.seated() as one:
                 for _ in range(3):
                     time.sleep(0.5)
@@ -281,7 +281,7 @@ def late_as_a_server_stops(program: Path) -> None:
         with contextlib.ExitStack() as stack:
             server = stack.enter_context(attended(program, "--workers", "2", "--log"))
             server.ask(op="stop", within=0)
-            time.sleep(0.1)
+            time.sleep(0.15)
             with takes(0, 5):
                 same(greeting(server, stack), b"")
                 same(server.end(), AGREED)
