@@ -7,6 +7,8 @@ import subprocess
 from pathlib import Path
 
 from checking import Test, Tests, named, same
+from faults import faults
+from faults.faults import INTERRUPTED, Fault, Ran
 from program.programs import CONFIG
 from running import Word, ran, started, unreadable
 from server.servers import ANY_PORT
@@ -110,6 +112,24 @@ def not_served(wanted: bytes, *words: str, given: bytes = CONFIG) -> Test:
     return lambda program: same(last_said(program, *words, given=given), wanted)
 
 
+def interrupted_calls_are_no_failures(program: Path) -> None:
+    """Nothing is said of a read or a write of a server that is made again after a signal."""
+    words = ("serve", "--listen", "here", "--connections", "1", "--memory", "1m")
+    rows = ran(program, *words, given=CONFIG).stderr.splitlines()
+
+    def attempt(fault: Fault) -> Ran:
+        with faults.at_fault(fault) as (how, count):
+            found = ran(program, *words, given=CONFIG, **how)
+            others = [row for row in found.stderr.splitlines() if row not in rows]
+            return Ran(found.stdout + b"".join(others), found.returncode, count())
+
+    for kind in ("read", "write"):
+        tried = list(faults.each(attempt, Fault(kind, moves=INTERRUPTED)))
+        assert tried, f"no {kind}"
+        for number, found in tried:
+            same(found[:2], (b'{"error":"listen"}\n', 1), f"{kind} {number}")
+
+
 def waits_for_its_configuration(program: Path) -> None:
     """On a terminal a server says that it waits for its configuration."""
     leader, follower = pty.openpty()
@@ -143,6 +163,7 @@ def tests() -> Tests:
         unserved = not_served(names.rstrip(), *ANY_PORT, given=given)
         yield f"{name}-explained-for-serve", unserved
     yield from named(port_in_use_explained, waits_for_its_configuration)
+    yield from named(interrupted_calls_are_no_failures)
     yield "lines-explained", explains("run", CONFIG, EVENTS)
     yield "steps-explained", explains("audit", CONFIG + GOAL, STEPS)
     yield from named(last_line_explained, nothing_else_explained)
