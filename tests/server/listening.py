@@ -1,16 +1,19 @@
 """How a server starts: its command line, configuration and address."""
 
+import functools
+import os
 import socket
 import subprocess
 import time
 from pathlib import Path
+from typing import Any
 
 from checking import Test, Tests, named, same
 from faults import faults
 from faults.faults import Fault
 from program.programs import refused
 from running import SECONDS, asked, ran, started, tell, unreadable
-from server.servers import AGREED, ANY_PORT, CONFIG, NOT_JSON, Server, running, served
+from server.servers import AGREED, ANY_PORT, CONFIG, NOT_JSON, Server, is_silent, running, served
 from tgdoc_client import Client
 
 LISTEN = b'{"error":"listen"}\n'
@@ -76,6 +79,14 @@ def server_whose_input_cannot_be_read(program: Path) -> None:
     same((found.stdout, found.returncode), (b"", 1))
 
 
+def server_whose_input_is_closed(program: Path) -> None:
+    """So does an input that is closed, and standard error says why."""
+    words = ("-c", 'exec "$0" "$@" <&-', program, "serve", *ANY_PORT, *ONE)
+    found = ran(Path("sh"), *words)
+    same((found.stdout, found.returncode), (b"", 1))
+    assert b"tgdoc: standard input: Bad file descriptor" in found.stderr, found.stderr
+
+
 def server_without_random_numbers(program: Path) -> None:
     """A server asks for random numbers once, and goes on without them."""
     words = ["serve", "--listen", "nonsense", *ONE]
@@ -104,6 +115,19 @@ def server_whose_output_cannot_be_written(program: Path) -> None:
         tell(process, CONFIG)
         with patient_client(port) as client:
             same(client.hello("bob"), 2)
+        same(process.wait(SECONDS), 1)
+
+
+def server_whose_streams_are_closed(program: Path) -> None:
+    """No connection takes the number of a stream that is closed, and no client gets the log."""
+    port, words = free_port(), ("--workers", "2", "--connections", "2", "--log")
+    how: dict[str, Any] = {"preexec_fn": functools.partial(os.closerange, 1, 3)}
+    with running(program, "--listen", f"127.0.0.1:{port}", *words, **how) as process:
+        with patient_client(port).socket as one:
+            with Client("127.0.0.1", port) as other:
+                same(other.hello("bob"), 2)
+                other.bye()
+            assert is_silent(one, 1.0), f"a client gets {one.recv(1_000)!r}"
         same(process.wait(SECONDS), 1)
 
 
@@ -168,7 +192,8 @@ def tests_of_listening() -> Tests:
     unended = accepted(*ANY_PORT, *ONE, config=CONFIG[:-1], is_whole=True)
     yield "configuration-without-line-feed", unended
     yield from named(server_without_random_numbers, server_whose_input_cannot_be_read)
-    yield from named(server_whose_output_cannot_be_written)
+    yield from named(server_whose_output_cannot_be_written, server_whose_input_is_closed)
+    yield from named(server_whose_streams_are_closed)
 
 
 # The options with values that are refused.
