@@ -11,7 +11,7 @@ from faults import faults
 from faults.faults import INTERRUPTED, Fault, Ran
 from program.programs import CONFIG
 from running import Word, ran, started, unreadable
-from server.servers import ANY_PORT
+from server.servers import ANY_PORT, LONG
 
 GOAL = b'{"from":1,"rights":"r","to":2}\n'
 # Configurations of which the names are refused: two are the same, and one is malformed.
@@ -64,6 +64,7 @@ STEPS: list[tuple[bytes, bytes | None]] = [
     (b'{"op":"enrol","actor":1,"name":"bob","rights":"r"}', b"unknown or missing op"),
     (b'{"op":"create","actor":1,"kind":"document","rights":"r","seat":0}', OTHER + b"seat"),
 ]
+MADE = b'{"op":"create","actor":1,"kind":"document","rights":"r"}'
 
 
 def explains(word: str, head: bytes, rows: list[tuple[bytes, bytes | None]]) -> Test:
@@ -84,6 +85,24 @@ def last_line_explained(program: Path) -> None:
     """The last line may lack its line feed."""
     found = ran(program, "run", "--explain", given=CONFIG + b"x")
     same(found.stderr, b"line 2: not one JSON value in UTF-8\n")
+
+
+def lines_behind_the_last_unexplained(program: Path) -> None:
+    """Lines that are not taken any more are not explained, though they were read with others."""
+    too_long = b"line 2: more than 16384 bytes\n"
+    for word, given, wanted in [
+        ("run", b"[]\n", b""),
+        ("run", b'{"principals":["alice"],"slots":0}\n', b""),
+        ("run", LONG, b""),
+        ("run", CONFIG + LONG, too_long),
+        ("run", CONFIG + LONG[:-1], too_long),
+        ("audit", b"[]\n" + GOAL, b""),
+        ("audit", CONFIG + b"[]\n", b""),
+        ("audit", CONFIG + LONG, b""),
+    ]:
+        found = ran(program, word, "--explain", given=given + b"x\ny\n")
+        said = [row for row in found.stderr.splitlines(True) if row.startswith(b"line")]
+        same((b"".join(said), found.returncode), (wanted, 1), f"{word} of {given[:40]!r}")
 
 
 def nothing_else_explained(program: Path) -> None:
@@ -165,5 +184,9 @@ def tests() -> Tests:
     yield from named(port_in_use_explained, waits_for_its_configuration)
     yield from named(interrupted_calls_are_no_failures)
     yield "lines-explained", explains("run", CONFIG, EVENTS)
-    yield "steps-explained", explains("audit", CONFIG + GOAL, STEPS)
-    yield from named(last_line_explained, nothing_else_explained)
+    for number, step in enumerate(STEPS, 1):
+        # an audit ends at the first step that is refused
+        rows = [(MADE, None), step, (b"x", None)]
+        yield f"refused-step-{number}-explained", explains("audit", CONFIG + GOAL, rows)
+    yield from named(last_line_explained, lines_behind_the_last_unexplained)
+    yield from named(nothing_else_explained)

@@ -5,15 +5,21 @@ ghost use Rattle.std.specs.Prelude.{◌≡◌};
 use std::alloc::Global;
 use std::io;
 use std::io::{Eprint, Read};
-use tg_wire::{LONGEST_LINE, LineKind, WireFault, key_at_fault, read_line, read_step};
+use tg_graph::Graph;
+use tg_talk::MOST_LINES;
+use tg_wire::{
+    LONGEST_LINE, LineKind, WireFault, key_at_fault, read_config, read_goal, read_line, read_step,
+};
 
 /// A reader of lines. If it explains them, it reports each one that is refused by itself: its number, from 1, and the
-/// field at fault. It leaves out the first lines, which are neither events nor steps.
+/// field at fault. It leaves out the first lines, which are neither events nor steps, and those after the last one that
+/// is taken.
 #[derive(Drop)]
 pub(crate) struct Explaining<'a, N, R> {
     device: R,
     rt: &'a N,
     alloc: Global,
+    /// What the lines are; none once no more are explained.
     kind: Option<LineKind>,
     /// The bytes so far of a line that has not ended, at most one more than a line may have.
     line: Vec<u8>,
@@ -48,7 +54,7 @@ impl<N: Eprint, R: Read> Read for Explaining<'_, N, R> {
         let count = self.device.read(buf)?;
         if let Some(kind) = self.kind {
             let bytes = buf.get(..count).unwrap_or(&[]);
-            hear(
+            let goes_on = hear(
                 self.rt,
                 self.alloc,
                 kind,
@@ -56,12 +62,16 @@ impl<N: Eprint, R: Read> Read for Explaining<'_, N, R> {
                 &mut self.number,
                 bytes,
             );
+            if !goes_on {
+                self.kind = None;
+            }
         }
         Ok(count)
     }
 }
 
-/// Explains the lines that end in these bytes; none come at the end.
+/// Explains the lines that end in these bytes, or become too long; none come at the end. Returns whether further lines
+/// are taken.
 fn hear<N: Eprint>(
     rt: &N,
     alloc: Global,
@@ -69,34 +79,74 @@ fn hear<N: Eprint>(
     line: &mut Vec<u8>,
     number: &mut u64,
     bytes: &[u8],
-) {
+) -> bool {
     if bytes.is_empty() && !line.is_empty() {
-        explain(rt, alloc, kind, line, *number);
-        line.clear();
+        return end_line(rt, alloc, kind, line, number);
     }
     for byte in bytes {
-        if *byte == b'\n' {
-            explain(rt, alloc, kind, line, *number);
-            line.clear();
-            *number = number.saturating_add(1);
-        } else if line.len() <= LONGEST_LINE {
-            let _ = line.push(*byte);
+        let ends = *byte == b'\n';
+        if !ends && line.push(*byte).is_err() {
+            return false;
+        }
+        let is_whole = ends || line.len() > LONGEST_LINE;
+        if is_whole && !end_line(rt, alloc, kind, line, number) {
+            return false;
         }
     }
+    true
 }
 
-/// Says why a line of this kind is refused, if it is.
-fn explain<N: Eprint>(rt: &N, alloc: Global, kind: LineKind, line: &[u8], number: u64) {
-    let (first, fault) = match kind {
-        LineKind::Event => (2, read_line(alloc, line).err()),
-        LineKind::Step => (3, read_step(alloc, line).err()),
+/// Explains a line, behind which the next one begins. Returns whether further lines are taken.
+fn end_line<N: Eprint>(
+    rt: &N,
+    alloc: Global,
+    kind: LineKind,
+    line: &mut Vec<u8>,
+    number: &mut u64,
+) -> bool {
+    let goes_on = explain(rt, alloc, kind, line, *number);
+    line.clear();
+    *number = number.saturating_add(1);
+    goes_on
+}
+
+/// Says why a line of this kind is refused, if it is. Returns whether further lines are taken: none are after a line
+/// that is too long, nor after a configuration, a goal or a step that is refused.
+fn explain<N: Eprint>(rt: &N, alloc: Global, kind: LineKind, line: &[u8], number: u64) -> bool {
+    if number > MOST_LINES {
+        return false;
+    }
+    if number == 1 {
+        return opens(alloc, line);
+    }
+    if number == 2 && kind == LineKind::Step {
+        return read_goal(alloc, line).is_ok();
+    }
+    let fault = match kind {
+        LineKind::Event => read_line(alloc, line).err(),
+        LineKind::Step => read_step(alloc, line).err(),
     };
     let Some(fault) = fault else {
-        return;
+        return true;
     };
-    if number < first {
-        return;
-    }
+    say(rt, alloc, kind, line, number, fault);
+    kind == LineKind::Event && fault != WireFault::TooLong
+}
+
+/// Whether a configuration line opens a graph.
+fn opens(alloc: Global, line: &[u8]) -> bool {
+    read_config(alloc, line).is_ok_and(|config| Graph::build(alloc, &config).is_ok())
+}
+
+/// Says that a line of this kind has this fault, and in which field.
+fn say<N: Eprint>(
+    rt: &N,
+    alloc: Global,
+    kind: LineKind,
+    line: &[u8],
+    number: u64,
+    fault: WireFault,
+) {
     let words = words_of(fault);
     match key_at_fault(alloc, kind, line) {
         Some(key) => {
