@@ -56,6 +56,7 @@ EVENTS: list[tuple[bytes, bytes | None]] = [
     (b'{"op":"write","over":2,"text":"%s"}' % (b"a" * 4_097), BAD + b"text"),
     (b'{"op":"create","kind":"folder","rights":"r"}', BAD + b"kind"),
     (b'{"op":"enrol","name":"Bob","rights":"r"}', BAD + b"name"),
+    (b'{"op":"bye","\\u001b[31mred\\nline 99":1}', OTHER + rb"\u{1b}[31mred\nline 99"),
     (b'{"op":"bye"}', None),
 ]
 

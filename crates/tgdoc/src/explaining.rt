@@ -138,7 +138,7 @@ fn opens(alloc: Global, line: &[u8]) -> bool {
     read_config(alloc, line).is_ok_and(|config| Graph::build(alloc, &config).is_ok())
 }
 
-/// Says that a line of this kind has this fault, and in which field.
+/// Says that a line of this kind has this fault, and in which field. A field that it should not have may have any key.
 fn say<N: Eprint>(
     rt: &N,
     alloc: Global,
@@ -150,6 +150,7 @@ fn say<N: Eprint>(
     let words = words_of(fault);
     match key_at_fault(alloc, kind, line) {
         Some(key) => {
+            let key = key.escape_debug();
             let _ = eprintln!(rt; "line {number}: {words} {key}");
         }
         None => {
