@@ -716,6 +716,24 @@ def control_without_an_answer(program: Path) -> None:
     assert 9.0 < took < 20.0, f"after {took:.1f} s"
 
 
+def control_that_is_suspended(program: Path) -> None:
+    """`tgdoc control` that is suspended while it waits for an answer prints it all the same."""
+    with tempfile.TemporaryDirectory() as folder, socket.socket(socket.AF_UNIX) as listener:
+        listener.settimeout(10.0)
+        listener.bind(f"{folder}/control")
+        listener.listen()
+        words = ("control", f"{folder}/control", "status")
+        with started(program, *words) as asking, listener.accept()[0] as one:
+            read_line(one)
+            for number in (signal.SIGSTOP, signal.SIGCONT):
+                time.sleep(0.2)
+                os.kill(asking.pid, number)
+            time.sleep(0.2)
+            one.sendall(IDLE)
+            assert asking.stdout
+            same((asking.stdout.read(), asking.wait(30)), (IDLE, 0))
+
+
 def exporter_answers(_program: Path) -> None:
     """The exporter answers 503 if the server answers with an error, and with the numbers of a
     status, though a client before is silent."""
@@ -860,7 +878,7 @@ def tests() -> Tests:
     yield from named(log_that_cannot_be_written, history_replays, history_that_cannot_be_written)
     yield from named(history_without_room, output_that_nobody_reads)
     yield from named(no_server_without_an_end_or_a_socket, control_subcommand)
-    yield from named(control_without_an_answer, exporter_answers)
+    yield from named(control_without_an_answer, control_that_is_suspended, exporter_answers)
     yield from named(watching_ends_with_an_error, memory_refused_to_the_control_subcommand)
     yield from named(thread_refused_to_attendants, memory_refused_to_attendants)
     yield from named(idle_with_a_control_socket)

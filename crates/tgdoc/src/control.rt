@@ -12,6 +12,7 @@ use std::rt::Clock;
 use std::sync::Wait;
 use std::time::Duration;
 use std::{io, thread};
+use tg_talk::Steady;
 
 /// The line that asks for the status.
 const STATUS: &str = "{\"op\":\"status\"}\n";
@@ -96,7 +97,7 @@ fn answer_of<N: Net>(rt: &N, alloc: Global, path: &str, line: &str) -> io::Resul
     let patience = Some(Duration::from_secs(PATIENCE));
     stream.set_read_timeout(patience)?;
     stream.set_write_timeout(patience)?;
-    let mut device = &stream;
+    let mut device = Steady::new(&stream);
     device.write_all(line.as_bytes())?;
     let mut answer = Vec::new(alloc);
     for _ in 0..LONGEST {
