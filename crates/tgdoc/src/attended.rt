@@ -1,12 +1,13 @@
 //! What is written beside a server: its log, and the file of its history.
 
 use std::alloc::Global;
+use std::fmt::{Display, Formatter};
 use std::fs::{Files, OpenOptions};
 use std::io::{BufWriter, Eprint, Write};
 use std::rt::Clock;
 use std::sync::Wait;
 use std::time::Duration;
-use std::{io, thread};
+use std::{fmt, io, thread};
 use tg_audit::entry_step;
 use tg_serve::{Departure, Desk, Notice};
 use tg_talk::TalkFault;
@@ -58,17 +59,22 @@ fn tell_departure<N: Eprint>(rt: &N, departure: Departure) {
         fault,
         seconds,
     } = departure;
+    let principal = OrNull(principal);
     let ended = word_of(fault);
-    match principal {
-        Some(serial) => {
-            let _ = eprintln!(rt;
-                "{{\"connection\":{connection},\"worker\":{worker},\"principal\":{serial},\"lines\":{lines},\"ended\":\"{ended}\",\"seconds\":{seconds}}}"
-            );
-        }
-        None => {
-            let _ = eprintln!(rt;
-                "{{\"connection\":{connection},\"worker\":{worker},\"principal\":null,\"lines\":{lines},\"ended\":\"{ended}\",\"seconds\":{seconds}}}"
-            );
+    let _ = eprintln!(rt;
+        "{{\"connection\":{connection},\"worker\":{worker},\"principal\":{principal},\"lines\":{lines},\"ended\":\"{ended}\",\"seconds\":{seconds}}}"
+    );
+}
+
+/// A number as JSON writes it.
+#[derive(Clone, Copy)]
+struct OrNull(Option<u64>);
+
+impl Display for OrNull {
+    fn fmt<W: fmt::Write>(&self, f: &mut Formatter<W>) -> fmt::Result {
+        match self.0 {
+            Some(number) => write!(f, "{number}"),
+            None => f.write_str("null"),
         }
     }
 }
