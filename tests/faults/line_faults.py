@@ -73,8 +73,13 @@ def quoted(words: Iterable[str]) -> list[str]:
     return [f'"{word}"' for word in words]
 
 
+def names(count: int) -> list[str]:
+    """Names of so many principals."""
+    return ["a" * (it % 26 + 1) + "b" * (it // 26) for it in range(count)]
+
+
 # Values at and beyond what a field may have; if a field is not named, those of numbers.
-SIXTY_FOUR = ",".join(quoted("a" * (it % 26 + 1) + "b" * (it // 26) for it in range(64)))
+SIXTY_FOUR = ",".join(quoted(names(64)))
 BOBS = ["", "Alice", "al ice", "alice1", "ali\\u0063e", "bo\\u0062", "é", "alice\\n"]
 ODD_EDGES = """[1,"t",3] [0,"t",1] [1,"t",1] [1,"",2] [1,"t",2],[1,"r",2] [2,"t",1],[1,"t",2]"""
 BAD_EDGES = """[1,"tt",2] [1,"t",2,3] [1,"t"] [1.0,"t",2] [1,"t",2e0] [-1,"t",2] 1,"t",2
