@@ -10,7 +10,6 @@ from random import Random
 from checking import Test, Tests, named, needing, same
 from faults import faults
 from faults.faults import BEFORE_ANY, one_of, tell_refused
-from faults.scripts import DONE
 from film.pictures import picture as read
 from fuzz.differential import answered, opening, printed_if_wrong, sources
 from models import picture as model
@@ -18,7 +17,7 @@ from models.collector import Course
 from models.reading import line_of, read_config
 from program.programs import CONFIG, PICTURE
 from running import asked, instructions, joined, ran
-from server.servers import CREATE, HELLO, LONG, NO_MEMORY, SHADE, TOO_LONG, WELCOME
+from server.servers import CREATE, DONE, HELLO, LONG, NO_MEMORY, SHADE, TOO_LONG, WELCOME
 
 RUNS = 120
 LINES = 40_000
@@ -118,7 +117,7 @@ def colours() -> Tests:
         *[COLLECT] * 4,
         b'{"op":"take","rights":"r","over":3,"from":2}',
     ]
-    label = said(lines[-1], DONE) + state(b"mark", 0, 5, SITS, b"seat 1: 2")
+    label = said(lines[-1], DONE[:-1]) + state(b"mark", 0, 5, SITS, b"seat 1: 2")
     picture = shot(
         label,
         b' 1 [label="1 alice\\nblack\\nseat 0",class="subject black",' + FILLED + BLACK,
@@ -133,7 +132,7 @@ def seats() -> Tests:
     """An agent that is its seat's target too; and somebody retired, without a slot, who sits."""
     subject = b'{"op":"create","kind":"subject","rights":"tg"}'
     assume = b'{"op":"assume","agent":3}'
-    label = said(assume, DONE) + state(b"idle", 1, 7, SITS)
+    label = said(assume, DONE[:-1]) + state(b"idle", 1, 7, SITS)
     three = b' 3 [label="3\\ngrey\\nagent 0\\ntarget 0",class="subject grey",' + FILLED + GREY
     picture = shot(label, ALICE, BOB, three, ARROW % (1, 3, b"tg"))
     yield "an-agent-and-target", last_of([TWO, HELLO[:-1], subject, SHADE[:-1], assume], picture)
