@@ -14,16 +14,16 @@ from pathlib import Path
 from checking import Test, Tests, same
 from faults import faults, scripts
 from faults.faults import BEFORE_ANY, FAILS, INTERRUPTED, Fault, Ran, one_of, ran, tell_refused
-from faults.scripts import NOT_JSON, Audit, Script
 from running import asked, joined
+from transcripts import Transcript
 
 NO_MEMORY = b'{"error":"out of memory"}'
+NOT_JSON = b'{"error":"not json"}'
+SHARED = b'{"verdict":"shared"}'
 
 # Lines that are answered.
-FIRST_LINES = {
-    "run": joined(scripts.DERIVED, scripts.hello(b"alice")),
-    "audit": joined(*scripts.AUDITS[0].lines),
-}
+AUDIT = scripts.AUDITS[0]
+FIRST_LINES = {"run": joined(AUDIT.lines[0], scripts.GREETING[0]), "audit": AUDIT.given}
 
 # Few bytes for each read, so that there are many.
 FEW = 16
@@ -70,34 +70,34 @@ class References:
         return all(found.get(place) == answers[place] for place in heard)
 
 
-def references_of(program: Path, script: Script) -> References:
+def references_of(program: Path, script: Transcript) -> References:
     """The answers of `run` to lines of a script."""
-    lines = script.lines()
+    opening, *lines = script.lines
 
     def ask(places: Places) -> list[bytes]:
-        given = joined(script.opening, *(lines[place] for place in places))
+        given = joined(opening, *(lines[place] for place in places))
         return ran(program, ["run"], given, Fault()).output.splitlines()
 
     return References(ask)
 
 
-def kind_of_run(references: References, script: Script, found: Ran) -> str | None:
+def kind_of_run(references: References, script: Transcript, found: Ran) -> str | None:
     """The result of a run that lacked some memory; None if it is not allowed."""
     answers = found.output.splitlines()
     if not answers or (answers == [NO_MEMORY] and found.status == 1):
         return {**BEFORE_ANY, (NO_MEMORY + b"\n", 1): "opening refused"}.get(found[:2])
-    if len(answers) != len(script.pairs) or found[:2] != end_with(answers):
+    if len(answers) != len(script.answers) or found[:2] != end_with(answers):
         return None
     return references.kind(answers)
 
 
-def memory_refused(script: Script, to_the_end: bool = False) -> Test:
+def memory_refused(script: Transcript, to_the_end: bool = False) -> Test:
     """Each allocation of a run fails, alone or with all after it."""
 
     def test(program: Path) -> None:
         references = references_of(program, script)
-        attempt = faults.runs(program, ["run"], script.given())
-        same(attempt(Fault())[:2], end_with(script.answers()), "with memory")
+        attempt = faults.runs(program, ["run"], script.given)
+        same(attempt(Fault())[:2], end_with(script.answers), "with memory")
         counts = faults.memory_refused(
             attempt, lambda found: kind_of_run(references, script, found), to_the_end
         )
@@ -107,14 +107,14 @@ def memory_refused(script: Script, to_the_end: bool = False) -> Test:
     return test
 
 
-def memory_of_one_answer_refused(word: str, cases: list[Audit]) -> Test:
+def memory_of_one_answer_refused(word: str, cases: list[Transcript]) -> Test:
     """Each allocation of runs with one answer fails: it is this, or `out of memory`."""
 
     def test(program: Path) -> None:
         counts: Counter[str] = Counter()
-        for lines, answer in cases:
-            attempt = faults.runs(program, [word], joined(*lines))
-            whole = joined(answer), int(answer != scripts.SHARED)
+        for case in cases:
+            attempt = faults.runs(program, [word], case.given)
+            whole = case.wanted, int(case.answers != [SHARED])
             same(attempt(Fault())[:2], whole, "with memory")
             no_memory = {(joined(NO_MEMORY), 1): "out of memory"}
             ends = {**BEFORE_ANY, **no_memory, whole: "answered all the same"}
@@ -125,12 +125,13 @@ def memory_of_one_answer_refused(word: str, cases: list[Audit]) -> Test:
     return test
 
 
-def answers_to(script: Script, given: bytes) -> list[bytes]:
+def answers_to(script: Transcript, given: bytes) -> list[bytes]:
     """The answers to a script that is cut after these bytes; a cut line is not JSON."""
     rows = given.splitlines()
-    known: list[tuple[bytes, bytes | None]] = [(script.opening, None), *script.pairs]
-    answers = [answer if row == line else NOT_JSON for row, (line, answer) in zip(rows, known)]
-    return [answer for answer in answers or [NOT_JSON] if answer is not None]
+    if rows[:1] != script.lines[:1]:
+        return [NOT_JSON]
+    pairs = zip(rows[1:], script.pairs)
+    return [answer if row == line else NOT_JSON for row, (line, answer) in pairs]
 
 
 def memory_of_texts_refused(program: Path) -> None:
@@ -146,20 +147,20 @@ def memory_of_texts_refused(program: Path) -> None:
     assert counts["command line refused"] > 0, "no command line was refused"
 
 
-def end_of_run(script: Script, given: bytes) -> End:
+def end_of_run(script: Transcript, given: bytes) -> End:
     """The output and status of a run on a script that is cut after these bytes."""
     return end_with(answers_to(script, given))
 
 
-def end_of_audit(audit: Audit, given: bytes) -> End:
+def end_of_audit(audit: Transcript, given: bytes) -> End:
     """The output and status of an audit that is cut after these bytes: the goal is reached by the
     last step but two, and not before."""
     rows = given.splitlines()
     if len(rows) < 2 or rows != audit.lines[: len(rows)]:
         return joined(NOT_JSON), 1
     if len(rows) < len(audit.lines) - 2:
-        return joined(scripts.goal_missing(b"r")), 1
-    return joined(audit.answer), 0
+        return b'{"missing":"r","verdict":"goal missing"}\n', 1
+    return audit.wanted, 0
 
 
 def check_calls(
@@ -220,7 +221,7 @@ def writes_gone_wrong(
     def test(program: Path) -> None:
         pieces = writes_of(given, answers)
         rows = [(place, row) for place, piece in enumerate(pieces) for row in piece]
-        whole = joined(*answers(given)), int(answers(given) != [scripts.SHARED])
+        whole = joined(*answers(given)), int(answers(given) != [SHARED])
 
         def wanted(number: int) -> End:
             if moves in HARMLESS:
@@ -287,8 +288,8 @@ def unread(word: str) -> Test:
 
 def tests_of_devices() -> Tests:
     """Reads and writes of `run` and `audit` that go wrong, and inputs that are cut."""
-    script, audit, short = scripts.PLAIN, scripts.AUDITS[0], scripts.SHORT
-    inputs = {"run": script.given(), "audit": joined(*audit.lines)}
+    script, audit, short = scripts.PLAIN, AUDIT, scripts.SHORT
+    inputs = {"run": script.given, "audit": audit.given}
     ends: dict[str, Callable[[bytes], End]] = {
         "run": lambda given: end_of_run(script, given),
         "audit": lambda given: end_of_audit(audit, given),
@@ -298,7 +299,7 @@ def tests_of_devices() -> Tests:
         "run": lambda given: (
             answers_to(script, given[: given.rfind(b"\n") + 1]) if b"\n" in given else []
         ),
-        "audit": lambda given: [audit.answer] if given == inputs["audit"] else [],
+        "audit": lambda given: audit.answers if given == inputs["audit"] else [],
     }
     cut_off: dict[str, Callable[[bytes], End]] = {
         "run": lambda given: (joined(*told["run"](given)), 1),
@@ -323,7 +324,7 @@ def tests_of_devices() -> Tests:
         yield f"writes-of-{word}-that-fail-from-then-on", from_then_on
         in_one = answers_in_one_write(word, given, told[word](given))
         yield f"answers-of-{word}-in-one-write", in_one
-    yield "cut-inputs-of-run", cut_inputs("run", short.given(), lambda it: end_of_run(short, it))
+    yield "cut-inputs-of-run", cut_inputs("run", short.given, lambda it: end_of_run(short, it))
     yield "cut-inputs-of-audit", cut_inputs("audit", inputs["audit"], ends["audit"])
     for word in FIRST_LINES:
         yield f"closed-input-of-{word}", closed(word, "<&-")
@@ -337,11 +338,7 @@ def tests() -> Tests:
     yield "memory-refused-in-a-run-without-errors", memory_refused(scripts.WITHOUT_ERRORS)
     yield "memory-refused-among-64-principals", memory_refused(scripts.CROWDED)
     yield "memory-refused-while-acting-for-another", memory_refused(scripts.ACTING)
-    openings = [
-        Audit([line], b'{"error":"config","fault":%d}' % fault)
-        for line, fault in scripts.REFUSED_OPENINGS
-    ]
-    refused_openings = memory_of_one_answer_refused("run", openings)
+    refused_openings = memory_of_one_answer_refused("run", scripts.REFUSED_OPENINGS)
     yield "memory-refused-at-refused-openings", refused_openings
     yield "memory-of-audits-refused", memory_of_one_answer_refused("audit", scripts.AUDITS)
     yield "memory-of-texts-refused", memory_of_texts_refused

@@ -23,8 +23,7 @@ from typing import NamedTuple
 from checking import Test, Tests, same, tell_counts
 from faults import faults, scripts
 from faults.faults import INTERRUPTED, WITHOUT_END, Fault
-from faults.refused import NO_MEMORY, References
-from faults.scripts import NOT_JSON
+from faults.refused import NO_MEMORY, NOT_JSON, References
 from running import Process, joined, started
 from server.servers import AGREED
 
@@ -138,15 +137,15 @@ def serve(
         return Served(answers, output, status, count(), port)
 
 
-ALL_ANSWERS = [answer for pairs in scripts.TALKS for _, answer in pairs]
+ALL_ANSWERS = [answer for talk in scripts.TALKS for answer in talk.answers]
 
 
 def lines_at(places: Collection[int]) -> list[list[bytes]]:
     """The lines of the script at these places, a list for each client."""
     talks, before = [], 0
-    for pairs in scripts.TALKS:
-        talks.append([line for place, (line, _) in enumerate(pairs, before) if place in places])
-        before += len(pairs)
+    for talk in scripts.TALKS:
+        talks.append([line for place, line in enumerate(talk.lines, before) if place in places])
+        before += len(talk.lines)
     return talks
 
 
@@ -267,7 +266,7 @@ def up_to_ten_times(test: Test) -> Test:
 @functools.cache
 def openings_refused(program: Path) -> int:
     """How many failed allocations of `run` end it with its opening refused."""
-    attempt = faults.runs(program, ["run"], joined(scripts.OPENING))
+    attempt = faults.runs(program, ["run"], joined(scripts.RUN.lines[0]))
     ends = [found[:2] for _, found in faults.each(attempt, Fault("memory"))]
     return ends.count((joined(NO_MEMORY), 1))
 
@@ -364,8 +363,8 @@ def check_cut_off(what: str, tried: Servers) -> None:
 
 
 def is_cut_off(one: Tried) -> bool:
-    first = len(scripts.TALKS[0])
-    return one.found.answers == ALL_ANSWERS[:first] + [None] * len(scripts.TALKS[1])
+    first, second = scripts.TALKS
+    return one.found.answers == first.answers + [None] * len(second.answers)
 
 
 # Of a rebase behind the first talk, in which something was freed: the list of what lives.
@@ -468,14 +467,13 @@ def harmless(_: Path, tried: Servers) -> None:
 
 # With a hello and a bye a connection makes four allocations, for its three buffers and the name,
 # and now and then one for the list of what connections left. So this one is late.
-GREETING = [scripts.hello(b"alice"), scripts.alone(b"bye")]
 LATE = 4 * 80
 
 
 def greeted(program: Path, fault: Fault, options: Options = ONE_ROUND) -> tuple[int, str | None]:
     """How many of 101 clients were greeted, and how the server ended."""
-    found = serve(program, [GREETING] * 101, fault, options)
-    return sum(answer == scripts.welcome(1) for answer in found.answers), end_of(found)
+    found = serve(program, [scripts.GREETING] * 101, fault, options)
+    return found.answers.count(b'{"ok":"hello","vertex":1}'), end_of(found)
 
 
 def memory_refused_late(program: Path) -> None:
@@ -503,7 +501,7 @@ def memory_refused_once_late(program: Path) -> None:
 
 def thread_refused_of_many(program: Path) -> None:
     """A server of 101 connections cannot start a thread: it does not settle."""
-    found = serve(program, [GREETING] * 101, Fault("thread", 1, 1))
+    found = serve(program, [scripts.GREETING] * 101, Fault("thread", 1, 1))
     same((end_of(found), [answer for answer in found.answers if answer]), (NOT_SETTLED, []))
 
 
