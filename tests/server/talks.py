@@ -1,114 +1,28 @@
 """What one client of a server gets, line by line."""
 
 import contextlib
+import json
 import socket
 import time
 from pathlib import Path
-from typing import Any
 
 from checking import Test, Tests, named, same
-from server.servers import AGREED, BYE, CONFIG, CREATE, CREATED, DONE, HELLO, LOOK, MADE, NOT_JSON
-from server.servers import PARTED, READ, ROOMY, SEEN, SHADE, WELCOME, denied, is_silent, poured
-from server.servers import read_all, read_line, refusal_of, served
+from running import joined
+from server.servers import AGREED, BYE, CONFIG, CREATE, HELLO, LOOK, MADE, NOT_JSON, PARTED, ROOMY
+from server.servers import SEEN, WELCOME, is_silent, poured, read_all, read_line, refusal_of, served
+from transcripts import transcripts
 
 # Room for one document, by slots and by cells.
 NARROW = b'{"edges":[[1,"rt",2]],"principals":["alice","bob"],"slots":3}\n'
 FEW_CELLS = b'{"cells":2,"edges":[[1,"t",2]],"principals":["alice","bob"]}\n'
 ENROL = b'{"name":"carol","op":"enrol","rights":"t"}\n'
-CAROL = b'{"name":"carol","op":"hello"}\n'
-RETIRE, LEAVE, ASSUME = b'{"op":"retire"}\n', b'{"op":"leave"}\n', b'{"agent":%d,"op":"assume"}\n'
-EDGES = b'{"edges":[%s],"ok":"edges"}\n'
-CAUSED, ERROR = b'{"cause":"%s","denied":"%s"}\n', b'{"error":"%s"}\n'
-NO_ACTOR, NO_PRINCIPAL, BOUND = (ERROR % it for it in (b"no actor", b"no principal", b"bound"))
-BAD_FIELD, NOT_FOR_A_SESSION = ERROR % b"bad field", ERROR % b"not for a session"
+RETIRE = b'{"op":"retire"}\n'
+ERROR = b'{"error":"%s"}\n'
+NO_ACTOR, NO_PRINCIPAL = ERROR % b"no actor", ERROR % b"no principal"
 
-Talk = list[tuple[bytes, bytes]]
-
-# The lines of a short talk, and their answers.
-SHORT_TALK: Talk = [
-    (READ, NO_ACTOR),
-    (HELLO, WELCOME),
-    (CREATE, CREATED),
-    (READ, b'{"ok":"text","text":""}\n'),
-    (SHADE, NOT_FOR_A_SESSION),
-    (BYE, PARTED),
-]
-
-# A talk of one who enrols another and then retires.
-LAST_TALK: Talk = [
-    (ENROL, NO_ACTOR),
-    (RETIRE, NO_ACTOR),
-    (CAROL, NO_PRINCIPAL),
-    (HELLO, WELCOME),
-    (b'{"name":"Carol","op":"enrol","rights":"t"}\n', BAD_FIELD),
-    (ENROL, MADE),
-    (ENROL, CAUSED % (b"name taken", b"enrol")),
-    (LOOK, EDGES % b'[2,"t"],[3,"t"]'),
-    (RETIRE, DONE),
-    (RETIRE, CAUSED % (b"retired", b"retire")),
-    (LOOK, CAUSED % (b"retired", b"look")),
-    (CREATE, CAUSED % (b"retired", b"create")),
-    (ENROL, CAUSED % (b"retired", b"enrol")),
-    (HELLO, BOUND),
-    (SHADE, NOT_FOR_A_SESSION),
-    (BYE, PARTED),
-]
-
-# A talk of one who acts for a subject that she made.
-ACTING_TALK: Talk = [
-    (ASSUME % 3, NO_ACTOR),
-    (LEAVE, NO_ACTOR),
-    (HELLO, WELCOME),
-    (ASSUME % 2, b'{"denied":"assume","from":1,"missing":"g","to":2}\n'),
-    (b'{"kind":"subject","op":"create","rights":"tg"}\n', MADE),
-    (ASSUME % 3, DONE),
-    (LOOK, b'{"denied":"look","from":3,"missing":"t","to":1}\n'),
-    (RETIRE, CAUSED % (b"not principal", b"retire")),
-    (b'{"kind":"document","op":"create","rights":"tg"}\n', CREATED % 4),
-    (b'{"at":3,"op":"look"}\n', EDGES % b'[4,"tg"]'),
-    (ASSUME % 3, CAUSED % (b"not distinct", b"assume")),
-    (ASSUME % 4, b'{"cause":"not subject","denied":"assume","vertex":4}\n'),
-    (HELLO, BOUND),
-    (LEAVE, DONE),
-    (LOOK, EDGES % b'[2,"t"],[3,"tg"]'),
-    (LEAVE, DONE),
-    (ASSUME % 3, DONE),
-    (BYE, PARTED),
-]
-
-# Every kind of line that a talk refuses, before hello and after it; the seat of a line is read and
-# not used.
-REFUSALS: Talk = [
-    (BYE, NO_ACTOR),
-    (SHADE, NO_ACTOR),
-    (b'{"op":"collect"}\n', NO_ACTOR),
-    (b'{"op":"cycle"}\n', NO_ACTOR),
-    (CAROL, NO_PRINCIPAL),
-    (b'{"op":"hello"}\n', ERROR % b"missing field"),
-    (b"{\n", NOT_JSON),
-    (b"\n", NOT_JSON),
-    (b'{"name":"alice","op":"hello","seat":77}\n', WELCOME),
-    (b'{"name":"bob","op":"hello"}\n', BOUND),
-    (SHADE, NOT_FOR_A_SESSION),
-    (b'{"op":"collect"}\n', NOT_FOR_A_SESSION),
-    (b'{"op":"cycle"}\n', NOT_FOR_A_SESSION),
-    (b"[]\n", ERROR % b"not an object"),
-    (b'{"op":"steal"}\n', ERROR % b"unknown op"),
-    (b'{"at":1,"op":"look","seat":63}\n', SEEN),
-    (b'{"at":1,"op":"look","seat":64}\n', SEEN),
-    (b'{"at":1,"op":"look","seat":"1"}\n', BAD_FIELD),
-    (b'{"at":1,"op":"look","over":1}\n', ERROR % b"unknown field"),
-    (
-        b'{"from":2,"op":"take","over":3,"rights":"w"}\n',
-        b'{"denied":"take","from":2,"missing":"w","to":3}\n',
-    ),
-    (BYE, PARTED),
-]
-
-
-def column(rows: Talk, index: int) -> bytes:
-    """All lines, or all answers, of a talk."""
-    return b"".join(row[index] for row in rows)
+HERE = Path(__file__).parent
+TALKS = transcripts(HERE / "talks.txt")
+SHORT_TALK = TALKS["short-talk"]
 
 
 def one_talk(answer: bytes, *pieces: bytes, config: bytes = CONFIG) -> Test:
@@ -159,42 +73,14 @@ def many_lines_of_a_client(program: Path) -> None:
         alice.bye()
 
 
-# What is refused to alice, who made document 3 with r alone and left no slot free, as the client's
-# exceptions have it.
-REFUSALS_OF_COMMANDS: list[tuple[tuple[Any, ...], Any]] = [
-    (("take", "wt", 9, 2), denied("take", "missing", missing="wt", source=2, target=9)),
-    (("take", "r", 2, 2), denied("take", "not distinct")),
-    (("create", "document", ""), denied("create", "empty")),
-    (("read", 2), denied("read", "not document", vertex=2)),
-    (("read", 9), denied("read", "missing", missing="r", source=1, target=9)),
-    (("write", 3, "no"), denied("write", "missing", missing="w", source=1, target=3)),
-    (("take", "r", 4, 2), denied("take", "missing", missing="r", source=2, target=4)),
-    (("create", "document", "r"), "slots"),
-    (("hello", "bob"), "bound"),
-    (("look", "1"), "bad field"),
-    (("enrol", "carol", "r"), "slots"),
-    (("enrol", "carol", ""), denied("enrol", "empty")),
-    (("enrol", "bob", "r"), denied("enrol", "name taken")),
-    (("enrol", "Carol", "r"), "bad field"),
-    (("assume", 1), denied("assume", "not distinct")),
-    (("assume", 2), denied("assume", "missing", missing="g", source=1, target=2)),
-    (("assume", "2"), "bad field"),
-    (("leave",), None),
-    (("retire",), None),
-    (("look", 1), denied("look", "retired")),
-    (("retire",), denied("retire", "retired")),
-    (("assume", 2), denied("assume", "retired")),
-    (("leave",), None),
-]
-
-
 def refusals_of_a_client(program: Path) -> None:
     """The client of the examples raises each refusal with its fields."""
     with served(program, 1, 1, config=NARROW) as server, server.client() as alice:
         alice.hello("alice")
         same(alice.create("document", "r"), 3)
-        for command, wanted in REFUSALS_OF_COMMANDS:
-            same(refusal_of(alice, *command), wanted, str(command))
+        for command, wanted in transcripts(HERE / "client.txt")["refusals"].pairs:
+            found = refusal_of(alice, *json.loads(command))
+            same(found, json.loads(wanted), command.decode())
         alice.bye()
 
 
@@ -282,16 +168,16 @@ def million_lines(program: Path) -> None:
 def answers_to(given: bytes, serial: int) -> bytes:
     """The answers to the short talk, cut in this way; its document gets this serial."""
     answers = []
-    for line, (whole, answer) in zip(given.splitlines(), SHORT_TALK):
-        answer = answer % serial if b"%" in answer else answer
-        answers.append(answer if line == whole.rstrip(b"\n") else NOT_JSON)
-    return b"".join(answers)
+    for line, (whole, answer) in zip(given.splitlines(), SHORT_TALK.pairs):
+        answer = answer.replace(b'"vertex":3', b'"vertex":%d' % serial)
+        answers.append(answer if line == whole else b'{"error":"not json"}')
+    return joined(*answers)
 
 
 def cut_after_each_byte(program: Path) -> None:
     """A short talk is cut after each byte, and the connection half closed: its lines are answered,
     a cut last one as a line too."""
-    whole, serial = column(SHORT_TALK, 0), 3
+    whole, serial = SHORT_TALK.given, 3
     with served(program, 1, len(whole) + 2, config=ROOMY) as server:
         for count in range(len(whole) + 1):
             wanted = answers_to(whole[:count], serial)
@@ -302,7 +188,7 @@ def cut_after_each_byte(program: Path) -> None:
 
 def dropped_after_each_byte(program: Path) -> None:
     """A short talk is dropped after each byte, no answer read: the next client is seated."""
-    whole = column(SHORT_TALK, 0)
+    whole = SHORT_TALK.given
     with served(program, 2, len(whole) + 2, config=ROOMY) as server:
         for count in range(len(whole) + 1):
             with server.connection() as one:
@@ -311,15 +197,10 @@ def dropped_after_each_byte(program: Path) -> None:
 
 
 def tests() -> Tests:
-    lines, answers = column(SHORT_TALK, 0), column(SHORT_TALK, 1) % 3
-    yield "short-talk", one_talk(answers, lines)
-    yield "short-talk-line-by-line", one_talk(answers, *[line for line, _ in SHORT_TALK])
-    for name, talk in [
-        ("refused-lines", REFUSALS),
-        ("enrol-and-retire-in-a-talk", LAST_TALK),
-        ("assume-and-leave-in-a-talk", ACTING_TALK),
-    ]:
-        yield name, one_talk(column(talk, 1), column(talk, 0))
+    lines = [line + b"\n" for line in SHORT_TALK.lines]
+    yield "short-talk-line-by-line", one_talk(SHORT_TALK.wanted, *lines)
+    for name, talk in TALKS.items():
+        yield name, one_talk(talk.wanted, talk.given)
     yield "no-line", one_talk(b"")
     yield "no-hello", one_talk(NO_ACTOR, LOOK)
     yield "two-lines-in-one-segment", one_talk(WELCOME + PARTED, HELLO + BYE)
