@@ -1,11 +1,17 @@
 """Transcripts: lines and their answers, as files that the author of a client can read.
 
-An entry is its name, and below it the lines that are sent, behind `> `, and the answers, behind
-`< `. What stands above the first name begins every entry. A line that begins with `#` is a comment,
-and `\\xff` is a byte by its number.
+An entry is its name and, below it, what a line begins with two characters for:
+
+    $ words of a command line, if they are not those of the file
+    > a line that is sent, in which \\xff is a byte by its number
+    < a line that answers it
+    ! the status in the end, if no answer tells it
+
+What stands above the first name begins every entry. A line that begins with `#` is a comment.
 """
 
 import re
+import shlex
 from dataclasses import dataclass, field
 from pathlib import Path
 
@@ -21,9 +27,13 @@ class Transcript:
 
     lines: list[bytes] = field(default_factory=list)
     answers: list[bytes] = field(default_factory=list)
+    words: list[str] = field(default_factory=list)
+    status: int | None = None
 
     def __add__(self, other: "Transcript") -> "Transcript":
-        return Transcript(self.lines + other.lines, self.answers + other.answers)
+        """One behind the other, with the words and the status of the later one."""
+        lines, answers = self.lines + other.lines, self.answers + other.answers
+        return Transcript(lines, answers, other.words or self.words, other.status)
 
     @property
     def given(self) -> bytes:
@@ -52,10 +62,16 @@ def transcripts(file: Path) -> dict[str, Transcript]:
     found: dict[str, Transcript] = {}
     begin = entry = Transcript()
     for row in file.read_text(encoding="utf-8").split("\n"):
-        if row[:1] in ("<", ">"):
-            rows = entry.lines if row[0] == ">" else entry.answers
-            rows.append(bytes_of(row[2:]))
-        elif row and row[0] != "#":
+        mark, text = row[:1], row[2:]
+        if mark == ">":
+            entry.lines.append(bytes_of(text))
+        elif mark == "<":
+            entry.answers.append(bytes_of(text))
+        elif mark == "$":
+            entry.words = shlex.split(text)
+        elif mark == "!":
+            entry.status = int(text)
+        elif mark not in ("", "#"):
             assert row not in found, f"{file}: {row} stands twice"
             found[row] = entry = begin + Transcript()
     return found

@@ -67,9 +67,10 @@ def line_of(op: str, but: Iterable[str] = (), extra: Iterable[Field] = ()) -> by
     return object_of([("op", f'"{op}"'), *fields, *extra])
 
 
-def case_of(name: str, run: Transcript) -> Case:
-    """A run; its status is 1 for an error."""
-    return Case(name, ["run"], run.given, run.wanted, int(b'"error"' in run.wanted))
+def case_of(name: str, found: Transcript) -> Case:
+    """A run, or what the words say; the status is 1 for an error, if no other is named."""
+    status = int(b'"error"' in found.wanted) if found.status is None else found.status
+    return Case(name, found.words or ["run"], found.given, found.wanted, status)
 
 
 def run(name: str, *pairs: Pair) -> Case:
@@ -84,8 +85,8 @@ def refused_opening(name: str, line: bytes, answer: bytes) -> Case:
 
 
 def written() -> Cases:
-    """The runs that stand in files."""
-    for file in ("session.txt", "openings.txt"):
+    """Those that stand in files."""
+    for file in ("session.txt", "openings.txt", "questions.txt", "questions_of_runs.txt"):
         for name, found in transcripts(HERE / file).items():
             yield case_of(name, found)
     for name, found in transcripts(HERE / "refused.txt").items():
