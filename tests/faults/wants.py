@@ -21,6 +21,7 @@ from pathlib import Path
 from typing import Any
 
 from checking import Tests, same
+from transcripts import transcripts
 
 # A place at which it is reported that memory ran out: file, function, what is handed on, and what
 # is made of it.
@@ -231,60 +232,18 @@ SEEN_SIZES = [
 ]
 
 
-# Functions that hand on what they were refused, with the call or the fault.
-HANDED_ON = [
-    ("Vec::new", "let Ok(room) = Vec::new(alloc, 9) else { return Err(AllocError); }; Ok(room)"),
-    ("self.enter", "match self\n.enter(one) {\nOk(it) => Ok(it),\nErr(_) => Err(AllocError),\n}"),
-    ("settle", "match settle(it) { Err(_) => Settled::NoMemory { it }, Ok(()) => Settled::Done }"),
-    ("write", "match write(it) {\nOk(it) => T { it },\nErr(_) => T {\nit: Err(AllocError),\n},\n}"),
-    ("A::NoRoom", "match close(it) { A::Done { .. } => B::Done, A::NoRoom { .. } => B::NoMemory }"),
-    ("all.push", "if all.push(one).is_err() { return Err(AllocError); } Ok(())"),
-    ("all.push", "all.push(one).map_err(|_| AllocError)"),
-    ("serve_in_threads", "match serve_in_threads(rt) { Some(it) => it, None => Found::NoMemory }"),
-]
-
-# Functions that report without cause that memory ran out.
-MADE_UP = [
-    "if steps.len() > 9 { return Err(AllocError); } Ok(())",
-    "if steps.len() > 9 {\nreturn Err(AllocError);\n}\nOk(())",
-    "if logs.len() < usize::MAX { return Settled::NoMemory { vault, logs }; } settle(logs)",
-    "if connections > 9 { Found::NoMemory } else { found }",
-    "let Some(first) = list.first() else { return Err(AllocError); }; Ok(first)",
-    "match store.join(edge) { Ok(()) => Ok(Done), Err(Full::Cells) => Err(AskFault::OutOfMemory) }",
-    "match list.first() { Some(one) => Ok(one), None => Err(AllocError) }",
-    "match all.push(one) { Ok(()) => Err(AllocError), Err(_) => unreachable!() }",
-    "if text.len() > 9 || all.push(one).is_err() { return Err(AllocError); } Ok(())",
-    "let fault = AllocError; Err(fault)",
-    "Err(WireFault::OutOfMemory)",
-    "if all.len() > 9 { return None; } Some(all)",
-]
-
-# Functions that make none: a type, a pattern, a refusal that `?` hands on.
-NONE_MADE = [
-    "let room: Result<Vec<u8>, AllocError> = Vec::with_capacity(alloc, 9); Ok(room?)",
-    "match fault { AskFault::OutOfMemory => 1, AskFault::Busy | AskFault::NoSeat => 2 }",
-    '// Err(AllocError)\nlet text = "AllocError"; all.push(text)?; Ok(())',
-]
-
-
 HEAD = "use std::alloc::{AllocError, Global};\n\nfn work(alloc: Global) -> Option<Told> {"
 
 
 def looks_can_fail(_: Path) -> None:
-    """What is seen in bodies of a line, which hand a refusal on, make a want up, or neither."""
-
-    def seen(body: str) -> list[tuple[str | None, str]]:
-        return [place[2:] for place in places_in("x.rt", f"{HEAD}\n{body}\n}}\n")]
-
-    for refusal, body in HANDED_ON:
-        same([handed for handed, made in seen(body) if made != "None"], [refusal], body)
-    for body in MADE_UP:
-        same([handed for handed, _ in seen(body)], [None], body)
-    for body in NONE_MADE:
-        same(seen(body), [], body)
+    """What is seen in bodies, which hand a refusal on, make a want up, or neither."""
+    for name, told in transcripts(Path(__file__).with_name("bodies.txt")).items():
+        places = places_in("x.rt", f"{HEAD}\n{told.given.decode()}}}\n")
+        found = [handed or "nothing" for _, _, handed, _ in places]
+        same(found, [answer.decode() for answer in told.answers], name)
     for body, *sizes in SEEN_SIZES:
-        found = sizes_in("x.rt", f"fn work() {{\n{body}\n}}\n")
-        same([part for size in found for part in size[2:]], sizes, body)
+        listed = sizes_in("x.rt", f"fn work() {{\n{body}\n}}\n")
+        same([part for size in listed for part in size[2:]], sizes, body)
 
 
 def tests() -> Tests:
