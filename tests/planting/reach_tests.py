@@ -1,53 +1,18 @@
-"""Tests of what a law reaches, on made-up definitions, lemmas and laws."""
+"""Tests of what a law reaches, on the definitions and lemmas of made_up/laws/, and two laws."""
 
 import tempfile
 from pathlib import Path
 
 from checking import Tests, named, same
 from planting.reach import Reach, named_lines
+from planting.reading import unpacked
 
-SPEC = """-- Numbers.
-use Rattle.std.specs.Prelude.{ℕ}
-
-pub base : ℕ
-base = 1
-
-module _ (n : ℕ) where
-  -- not below base
-  pub above : ℕ
-  above = base
-
-  record Both : Type 0 where
-    pub first : ℕ
-
-last : ℕ
-last = 2"""
+KEPT = Path(__file__).parent / "made_up" / "laws"
+SPEC = (KEPT / "specs" / "Numbers.antt.txt").read_text(encoding="utf-8")
 # The definition of each of its lines; a comment belongs to what stands above it.
 NAMES = ["", "", "", "base", "base", "base", None, None, "above", "above", "above"]
-NAMES += ["Both", "Both", "Both", "last", "last"]
+NAMES += ["Both", "Both", "Both", "last", "last", "last"]
 
-LEMMAS = """use Rattle.tiny.specs.Numbers.{above as higher, last}
-
-pub by_above : higher 1 ≡ 1
-unfolding higher
-by_above = refl
-
-pub by_last : last ≡ 2
-by_last = refl
-"""
-FILES = {
-    "specs/Numbers.antt": SPEC,
-    "proofs/Lemmas.antt": LEMMAS,
-    "proofs/one/Answers.antt": "use Rattle.tiny.proofs.Lemmas.{by_above}\nreturns c = by_above\n",
-    "proofs/two/Answers.antt": """use Rattle.tiny.proofs.Lemmas.{by_above, by_last}
-
-pub returns-clause-above : goal.returns-clause-above
-returns-clause-above c = by_above
-
-pub returns-clause-last : goal.returns-clause-last
-returns-clause-last c = by_last
-""",
-}
 # (what a comment says is not reached)
 LAWS = {
     "one": ("// last\npub fn one() ensures { above 1 ≡ 1 }", 0),
@@ -61,11 +26,8 @@ def lines_have_their_definitions(_: Path) -> None:
 
 
 def made_up(folder: str) -> Reach:
-    """What the laws of the files above reach."""
-    for path, text in FILES.items():
-        Path(folder, path).parent.mkdir(parents=True, exist_ok=True)
-        Path(folder, path).write_text(text, encoding="utf-8")
-    return Reach(folder, "tiny", LAWS, ["one", "two"], "")
+    """What the laws above reach."""
+    return Reach(str(unpacked(KEPT, folder)), "tiny", LAWS, ["one", "two"], "")
 
 
 def clauses_reach_by_their_lemmas(_: Path) -> None:
