@@ -8,8 +8,9 @@ from pathlib import Path
 
 from checking import Tests, named, same
 from planting import reading
-from planting.reading import Edit
+from planting.reading import Edit, Entry, entries_in
 from running import ROOT, ran
+from transcripts import transcripts
 
 TEXT = """# Bugs of src/rules.rt.
 
@@ -43,43 +44,12 @@ READ = {
     "last": [Edit("src/rules.rt", "c", " d"), Edit("src/rules.rt", "e", "f")],
 }
 
-HERE = f"here should be {reading.WANTED}"
-# Texts that are no bugs, and what is said of each.
-MISREAD = [
-    ("one\n- a\n+ b\n\ntwo\n- a\n+ b\none\n- c\n+ d\n", "8: the name one stands twice"),
-    ("one\n- a\n+ b\n\none\n", "5: the name one stands twice"),
-    ("one\n\ntwo\n- a\n+ b\n", "one has no old and new text"),
-    ("one\n- a\n+ b\ntwo", "two has no old and new text"),
-    # no new text: at the end, above a name, above a line between them
-    ("one\n- a", f"2: {HERE}"),
-    ("one\n- a\n- b\ntwo\n- a\n+ b\n", f"2: {HERE}"),
-    ("one\n- a\n\n+ b\n", f"2: {HERE}"),
-    ("one\n- a\n# b\n+ b\n", f"2: {HERE}"),
-    # no old text, no name, no mark, or no blank behind it
-    ("one\n+ b\n", f"2: {HERE}"),
-    ("one\n- a\n+ b\n\n+ b\n", f"5: {HERE}"),
-    ("# One.\n\n- a\n+ b\n", f"3: {HERE}"),
-    ("in src/lib.rt\none\n- a\n+ b\n", f"1: {HERE}"),
-    ("one\n- a\n+ b\n}\n", f"4: {HERE}"),
-    ("one\n-a\n+b\n", f"2: {HERE}"),
-    ("One\n- a\n+ b\n", f"1: {HERE}"),
-]
-
-# Edits that cannot be made in a file that says "a b b", and what is said of each.
-MISPLACED = [
-    ([("src/lib.rt", "c", "d")], "an old text is in src/lib.rt 0 times, and not once: c"),
-    ([("src/lib.rt", "b", "d")], "an old text is in src/lib.rt 2 times, and not once: b"),
-    ([("src/lib.rt", "", "d")], "an old text is in src/lib.rt 7 times, and not once: "),
-    ([("src/lib.rt", "a", "a")], "it changes nothing"),
-    ([("src/lib.rt", "a", "c"), ("src/lib.rt", "c", "a")], "it changes nothing"),
-    (
-        [("src/lib.rt", "a", "c"), ("src/lib.rt", "a", "d")],
-        "an old text is in src/lib.rt 0 times, and not once: a",
-    ),
-    ([("src/none.rt", "a", "b")], "there is no file src/none.rt"),
-    ([("src/../lib.rt", "a", "b")], "src/../lib.rt is no path below src/, specs/ or proofs/"),
-    ([("crates.txt", "a", "b")], "crates.txt is no path below src/, specs/ or proofs/"),
-]
+# Texts that are no bugs, edits that cannot be made, and what is said of each.
+HERE = Path(__file__).parent / "made_up"
+MISREAD = transcripts(HERE / "misread.txt")
+EMPTY = "an old text is in src/lib.rt 7 times, and not once: "
+MISPLACED = [*entries_in(HERE / "misplaced.bugs")]
+MISPLACED.append(Entry("an empty text", [EMPTY], [Edit("src/lib.rt", "", "d")]))
 
 # Files of planted/ that are not read, and what is said of the last one.
 STRANGE = [
@@ -107,8 +77,10 @@ def bugs_are_read(_: Path) -> None:
 
 def misread_bugs_are_told(_: Path) -> None:
     """What is no bug is told, with its line."""
-    for text, wanted in MISREAD:
-        same(error_of(reading.bugs_in, text, "src/lib.rt"), wanted, text)
+    for name, told in MISREAD.items():
+        text, (wanted,) = b"\n".join(told.lines).decode(), told.answers
+        found = error_of(reading.bugs_in, text, "src/lib.rt")
+        same(found, wanted.decode().replace("WANTED", reading.WANTED), name)
 
 
 def misplaced_bugs_are_told(_: Path) -> None:
@@ -117,15 +89,11 @@ def misplaced_bugs_are_told(_: Path) -> None:
         crate = Path(folder)
         (crate / "src").mkdir()
         (crate / "src" / "lib.rt").write_text("a b b\n")
-        for edits, wanted in MISPLACED:
-            same(error_of(made, edits, crate), wanted, str(edits))
-        twice = made([("src/lib.rt", "a", "c\n"), ("src/lib.rt", "c\n b", "")], crate)
+        for name, wanted, edits in MISPLACED:
+            same([error_of(reading.edited, edits, crate)], wanted, name)
+        edits = [Edit("src/lib.rt", "a", "c\n"), Edit("src/lib.rt", "c\n b", "")]
+        twice = reading.edited(edits, crate)
     same(twice, {"src/lib.rt": " b\n"})
-
-
-def made(edits: list[tuple[str, str, str]], crate: Path) -> dict[str, str]:
-    """The texts with the edits."""
-    return reading.edited([Edit(*it) for it in edits], crate)
 
 
 def strange_files_are_told(_: Path) -> None:
