@@ -1,4 +1,5 @@
-"""The promises of docs/THEOREM.md, and on which definitions each rests, by the sources.
+"""The promises of docs/THEOREM.md, which promises.txt lists, and on which definitions each rests, by
+the sources.
 
 A promise is a record of crates/*/specs, or what functions' contracts say. It rests on the
 definitions that it names, on those that these name, and so on; of a type of the code, on what
@@ -7,19 +8,13 @@ lies in memory, and lemmas, are the checker's business.
 """
 
 from collections.abc import Iterable
+from pathlib import Path
 from typing import NamedTuple
 
 from theorem.imports import Place
 from theorem.sources import Sources
 
 HEADLINE = Place("tg_vault/specs/Promise/Headline.antt", "Headline")
-# By these a `VaultStep` says more of the store than the main theorem does.
-SKIPPED = frozenset(
-    {
-        Place("tg_vault/specs/Promise/StoreSteps.antt", "StoreStep"),
-        Place("tg_vault/specs/Promise/Course.antt", "IsCoherent"),
-    }
-)
 
 
 class Contract(NamedTuple):
@@ -38,60 +33,24 @@ class Promise(NamedTuple):
     skipped: frozenset[Place] = frozenset()
 
 
-OF_A_VAULT = (
-    HEADLINE,
-    Contract("tg_vault/src/vault.rt", "new"),
-    Contract("tg_vault/src/vault.rt", "with_key"),
-    Contract("tg_vault/src/vault.rt", "run"),
-    Contract("tg_vault/src/vault.rt", "run_one"),
-    Contract("tg_vault/src/vault.rt", "run_one_into"),
-    Contract("tg_vault/src/vault.rt", "command", ("agrees",)),
-    Contract("tg_vault/src/rebase.rt", "rebase"),
-    Contract("tg_vault/src/rebase.rt", "rebase_with_past"),
-)
+def listed(row: str) -> Place | Contract:
+    """A definition, or a contract, of a row of the list."""
+    file, name, *clauses = row.split()
+    return Place(file, name) if file.endswith(".antt") else Contract(file, name, tuple(clauses))
 
-# In the order of the page, where each adds to those above it. The numbered items have no title.
-PROMISES = [
-    Promise("", OF_A_VAULT, SKIPPED),
-    Promise("The store's steps", OF_A_VAULT),
-    Promise("A store", (Contract("tg_collect/src/laws.rt", "steps_in_the_graph"),)),
-    Promise("The program", (Contract("tgdoc/src/run.rt", "run_lines"),)),
-    Promise("Pictures", (Contract("tgdoc/src/run.rt", "draw_lines"),)),
-    Promise(
-        "A verdict",
-        (
-            Contract("tgdoc/src/audit.rt", "audit_lines"),
-            Contract("tg_audit/src/derivations.rt", "check"),
-        ),
-    ),
-    Promise(
-        "Can it ever be shared?",
-        (
-            Contract("tg_sharing/src/sharing.rt", "can_share"),
-            Contract("tg_sharing/src/lookup.rt", "every_holder"),
-            Contract("tg_sharing/src/lookup.rt", "every_target"),
-            Contract("tgdoc/src/run.rt", "share_lines"),
-        ),
-    ),
-    Promise(
-        "Threads",
-        (
-            Contract("tg_share/src/closing.rt", "close"),
-            Contract("tg_share/src/session.rt", "session", ("seated", "refused")),
-            Contract("tg_share/src/session.rt", "submit", ("asked",)),
-        ),
-    ),
-    Promise("A connection", (Contract("tg_talk/src/talking.rt", "talk"),)),
-    Promise(
-        "The server",
-        (
-            Contract("tg_serve/src/rounds.rt", "serve_on"),
-            Contract("tg_serve/src/rounds.rt", "serve_operated"),
-            Contract("tg_serve/src/rounds.rt", "conclude"),
-            Contract("tg_serve/src/serve.rt", "serve_round"),
-        ),
-    ),
-]
+
+def promise_of(paragraph: str) -> Promise:
+    """A promise of the list; the numbered items have no title."""
+    title, *rows = [row for row in paragraph.splitlines() if row[0] != "#"]
+    title = title.removeprefix("The numbered items")
+    begins = tuple(listed(row) for row in rows if not row.startswith("but "))
+    skipped = (Place(*row.split()[1:]) for row in rows if row.startswith("but "))
+    return Promise(title, begins, frozenset(skipped))
+
+
+LIST = Path(__file__).with_suffix(".txt").read_text(encoding="utf-8")
+# Behind the first paragraph, which says how the list is to be read.
+PROMISES = [promise_of(paragraph) for paragraph in LIST.split("\n\n")[1:]]
 
 
 def named_by(sources: Sources, contract: Contract) -> set[Place]:
