@@ -7,7 +7,8 @@ An entry is its name and, below it, what a line begins with two characters for:
     < a line that answers it
     ! the status in the end, if no answer tells it
 
-What stands above the first name begins every entry. A line that begins with `#` is a comment.
+Behind two blanks goes on what the line above has. What stands above the first name begins every
+entry. A line that begins with `#` is a comment.
 """
 
 import re
@@ -61,7 +62,7 @@ def transcripts(file: Path) -> dict[str, Transcript]:
     """The entries of a file by their names."""
     found: dict[str, Transcript] = {}
     begin = entry = Transcript()
-    for row in file.read_text(encoding="utf-8").split("\n"):
+    for row in file.read_text(encoding="utf-8").replace("\n  ", "").split("\n"):
         mark, text = row[:1], row[2:]
         if mark == ">":
             entry.lines.append(bytes_of(text))

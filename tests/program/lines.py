@@ -86,8 +86,8 @@ def refused_opening(name: str, line: bytes, answer: bytes) -> Case:
 
 def written() -> Cases:
     """Those that stand in files."""
-    for file in ("session.txt", "openings.txt", "questions.txt", "questions_of_runs.txt"):
-        for name, found in transcripts(HERE / file).items():
+    for file in ("session", "openings", "questions", "questions_of_runs", "pictures"):
+        for name, found in transcripts(HERE / f"{file}.txt").items():
             yield case_of(name, found)
     for name, found in transcripts(HERE / "refused.txt").items():
         yield run(name, *found.pairs, (LOOK, SEEN))
