@@ -15,13 +15,6 @@ CONFIG = b'{"principals":["alice"]}\n'
 DERIVATION = CONFIG + b'{"from":1,"rights":"r","to":2}\n'
 DERIVATION += b'{"actor":1,"kind":"document","op":"create","rights":"r"}\n'
 SHARED = b'{"verdict":"shared"}\n'
-# What `draw` writes for alice, who has a seat, after both lines.
-PICTURE = (
-    b'digraph { graph [labelloc=t,labeljust=l,label="lines 2, errors 0\\l'
-    b'phase idle, free slots 1023, free cells 16384\\lseat 0: 1\\l"]; '
-    b'node [shape=circle,width=1]; 1 [label="1 alice\\nwhite\\nseat 0",class="subject white",'
-    b"style=filled,fillcolor=skyblue,penwidth=1]; }\n"
-)
 
 
 def answers_come_at_once(program: Path) -> None:
@@ -99,11 +92,6 @@ def refused(*words: Word) -> Test:
     return test
 
 
-def accepted(given: bytes, answer: bytes, *words: str, status: int = 0) -> Test:
-    """A command line that asks for a mode: the lines are answered."""
-    return lambda program: same(asked(program, *words, given=given), (answer, status))
-
-
 def example_of(program: Path, named: list[str], *words: str) -> list[str]:
     """The words of the one example that ends a help text, which names certain words before."""
     found = ran(program, *words, "--help")
@@ -149,7 +137,7 @@ def help_on_draw(program: Path) -> None:
 def derivation_of(name: str, answer: bytes, status: int) -> Test:
     """The verdict on the derivation of an example."""
     given = (ROOT / "examples" / name).read_bytes()
-    return accepted(given, answer, "audit", status=status)
+    return lambda program: same(asked(program, "audit", given=given), (answer, status))
 
 
 def demo_of(program: Path, *words: str) -> str:
@@ -224,15 +212,8 @@ def tests_of_pipes() -> Tests:
 
 
 def tests_of_words() -> Tests:
-    """Command lines."""
-    lines = CONFIG + HELLO
-    for word, given, answer in [
-        ("run", lines, WELCOME),
-        ("audit", DERIVATION, SHARED),
-        ("draw", lines, PICTURE),
-    ]:
-        yield f"{word}-alone", accepted(given, answer, word)
-        yield f"dashes-behind-{word}", accepted(given, answer, word, "--")
+    """Command lines that are refused."""
+    for word in ("run", "audit", "draw"):
         yield f"dashes-before-{word}", refused("--", word)
         yield f"version-of-{word}", refused(word, "--version")
         yield f"a-word-too-many-behind-{word}", refused(word, "now")
