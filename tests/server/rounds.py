@@ -18,54 +18,25 @@ from models.graph import Graph
 from models.reading import Config, Event, line_of, read_config, read_event
 from models.storage import Run
 from program.programs import refused
-from server.servers import ANY_PORT, BYE, CONFIG, CREATE, CREATED, DONE, HELLO, LOOK, MADE, PARTED
-from server.servers import READ, ROOMY, WELCOME, WRITE, Server, in_rounds, read_line, served
+from server.servers import ANY_PORT, BYE, CONFIG, CREATE, HELLO, LOOK, MADE, PARTED, ROOMY, WELCOME
+from server.servers import Server, in_rounds, read_line, served
+from transcripts import transcripts
 
 
-def talks(config: bytes, each: int, *rows: tuple[bytes, bytes], dropped: list[int]) -> Test:
-    """One talk after the other, so many in a round: what is sent, and what is answered."""
+TALKS = transcripts(Path(__file__).with_suffix(".txt"))
+NARROW = b'{"cells":4,"principals":["alice","bob"],"slots":3}\n'
+
+
+def talks(config: bytes, each: int, *names: str, dropped: list[int]) -> Test:
+    """One talk after the other, so many in a round."""
 
     def test(program: Path) -> None:
         words, ends = ("--round", str(each)), in_rounds(*dropped)
-        with served(program, 1, len(rows), *words, config=config, ends=ends) as server:
-            for sent, answer in rows:
-                same(server.exchange(sent), answer)
+        with served(program, 1, len(names), *words, config=config, ends=ends) as server:
+            for name in names:
+                same(server.exchange(TALKS[name].given), TALKS[name].wanted, name)
 
     return test
-
-
-# The worked case: what is written in the first round is read in the second.
-WRITES = HELLO + CREATE + WRITE % b"hi" + BYE, WELCOME + MADE + DONE + PARTED
-READS = HELLO + READ + BYE, WELCOME + b'{"ok":"text","text":"hi"}\n' + PARTED
-
-# What is dropped has no slot in the next round, and its serial is not given again.
-NARROW = b'{"cells":4,"principals":["alice","bob"],"slots":3}\n'
-REMOVE = b'{"op":"remove","over":3,"rights":"rw"}\n'
-DROPS = HELLO + CREATE + REMOVE + BYE, WELCOME + MADE + DONE + PARTED
-LACKS = b'{"denied":"read","from":1,"missing":"r","to":3}\n'
-FULL = b'{"full":"slots"}\n'
-MAKES = HELLO + READ + CREATE * 2 + BYE, WELCOME + LACKS + CREATED % 4 + FULL + PARTED
-KEEPS = HELLO + LOOK + BYE, WELCOME + b'{"edges":[[4,"rw"]],"ok":"edges"}\n' + PARTED
-
-# Who was enrolled in an earlier round is a principal; who has retired is none, though its vertex
-# lives.
-CAROL, ENROL = b'{"name":"carol","op":"hello"}\n', b'{"name":"carol","op":"enrol","rights":"%s"}\n'
-ENROLS = HELLO + ENROL % b"t" + BYE, WELCOME + MADE + PARTED
-RETIRES = CAROL + b'{"op":"retire"}\n' + BYE, b'{"ok":"hello","vertex":3}\n' + DONE + PARTED
-ENROLS_AGAIN = (
-    CAROL + HELLO + ENROL % b"r" + LOOK + BYE,
-    b'{"error":"no principal"}\n'
-    + WELCOME
-    + CREATED % 4
-    + b'{"edges":[[2,"t"],[3,"t"],[4,"r"]],"ok":"edges"}\n'
-    + PARTED,
-)
-COMES_BACK = CAROL + BYE, b'{"ok":"hello","vertex":4}\n' + PARTED
-
-# An agent is one until the end of its session, and lives only as long as it is reached.
-ASSUMES = b'{"kind":"subject","op":"create","rights":"tg"}\n{"agent":3,"op":"assume"}\n'
-ACTS = HELLO + ASSUMES + CREATE, WELCOME + MADE + DONE + CREATED % 4
-LOOKS = HELLO + b'{"at":3,"op":"look"}\n', WELCOME + b'{"edges":[[4,"rw"]],"ok":"edges"}\n'
 
 
 def one_waits_for_the_next_round(program: Path) -> None:
@@ -144,45 +115,16 @@ def same_before_and_after_a_rebase(program: Path) -> None:
         print(f"  {len(cut.kinds)} vertices of {len(whole.kinds)} are left")
 
 
-# Events and their answers, and those after a rebase, by the models alone: slots and cells stay as
-# they were.
-HELLO_OF_ALICE: tuple[Event, Event] = (
-    {"op": "hello", "name": "alice"},
-    {"ok": "hello", "vertex": 1},
-)
-A_DOCUMENT = {"op": "create", "kind": "document", "rights": "r"}
-GARBAGE: list[tuple[Event, Event]] = [
-    HELLO_OF_ALICE,
-    ({"op": "hello", "name": "bob", "seat": 1}, {"ok": "hello", "vertex": 2}),
-    (A_DOCUMENT, {"ok": "created", "vertex": 3}),
-    ({"op": "shade"}, {"shaded": 3}),
-    ({"op": "remove", "rights": "r", "over": 3}, {"ok": "done"}),
-    (A_DOCUMENT, {"full": "slots"}),
-    ({"op": "cycle"}, {"freed": 0, "steps": 12}),
-    ({"op": "cycle"}, {"freed": 1, "steps": 10}),
-    (A_DOCUMENT, {"ok": "created", "vertex": 4}),
-    ({"op": "shade"}, {"shaded": 4}),
-    ({"op": "bye"}, {"ok": "bye"}),
-    ({"op": "bye", "seat": 1}, {"ok": "bye"}),
-]
-AFTERWARDS: list[tuple[Event, Event]] = [
-    HELLO_OF_ALICE,
-    ({"op": "read", "over": 4}, {"ok": "text", "text": ""}),
-    ({"op": "read", "over": 3}, {"denied": "read", "from": 1, "missing": "r", "to": 3}),
-    (A_DOCUMENT, {"full": "slots"}),
-]
-
-
 def models_after_garbage(_: Path) -> None:
     """The worked case of a rebase after garbage, by the models."""
     config: Config = read_config(NARROW[:-1])
     models: list[Course | Run] = [Course(config), Run(config)]
     for model in models:
-        for rows in (GARBAGE, AFTERWARDS):
-            for event, wanted in rows:
-                problem = model.problem({"seat": 0, **event}, line_of(wanted))
-                assert problem is None, f"{event}: {problem}"
-            if rows is GARBAGE:
+        for name in ("garbage", "afterwards"):
+            for line, answer in TALKS[name].pairs:
+                problem = model.problem(read_event(line), answer)
+                assert problem is None, f"{line!r}: {problem}"
+            if name == "garbage":
                 model.rebase()
         graph = model.graph
         same((sorted(graph.kinds), graph.label(1, 4), graph.next), ([1, 2, 4], "r", 5))
@@ -190,15 +132,17 @@ def models_after_garbage(_: Path) -> None:
 
 def tests() -> Tests:
     yield from named(models_after_garbage)
-    yield "a-server-in-rounds", talks(CONFIG, 1, WRITES, READS, dropped=[2])
-    yield "one-round", talks(CONFIG, 2, WRITES, READS, dropped=[])
-    yield "round-of-more-than-the-connections", talks(CONFIG, 10**6, WRITES, READS, dropped=[])
-    shorter = talks(CONFIG, 2, WRITES, READS, READS, READS, READS, dropped=[3, 2])
+    two = ("writes", "reads")
+    yield "a-server-in-rounds", talks(CONFIG, 1, *two, dropped=[2])
+    yield "one-round", talks(CONFIG, 2, *two, dropped=[])
+    yield "round-of-more-than-the-connections", talks(CONFIG, 10**6, *two, dropped=[])
+    shorter = talks(CONFIG, 2, "writes", *["reads"] * 4, dropped=[3, 2])
     yield "last-round-is-shorter", shorter
-    yield "garbage-is-gone-in-the-next-round", talks(NARROW, 1, DROPS, MAKES, KEEPS, dropped=[2, 3])
-    principals = talks(CONFIG, 1, ENROLS, RETIRES, ENROLS_AGAIN, COMES_BACK, dropped=[1, 1, 2])
-    yield "principals-of-earlier-rounds", principals
-    yield "agents-of-earlier-rounds", talks(CONFIG, 1, ACTS, LOOKS, LOOKS, dropped=[3, 1])
+    garbage = talks(NARROW, 1, "drops", "makes", "keeps", dropped=[2, 3])
+    yield "garbage-is-gone-in-the-next-round", garbage
+    names = ("enrols", "retires", "enrols-again", "comes-back")
+    yield "principals-of-earlier-rounds", talks(CONFIG, 1, *names, dropped=[1, 1, 2])
+    yield "agents-of-earlier-rounds", talks(CONFIG, 1, "acts", "looks", "looks", dropped=[3, 1])
     yield from named(one_waits_for_the_next_round, many_clients_in_a_round)
     yield from named(same_before_and_after_a_rebase)
     for number in ("0", "1000001", "-1", "+1", "x", ""):
