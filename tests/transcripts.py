@@ -3,10 +3,11 @@
 An entry is its name and, below it, what a line begins with two characters for:
 
     $ words of a command line, if they are not those of the file
-    > a line that is sent, in which \\xff is a byte by its number
+    > a line that is sent
     < a line that answers it
     ! the status in the end, if no answer tells it
 
+In a line \\{a*99} is what stands before the star so many times, and \\xff a byte by its number.
 Behind two blanks goes on what the line above has. What stands above the first name begins every
 entry. A line that begins with `#` is a comment.
 """
@@ -55,7 +56,8 @@ class Transcript:
 
 def bytes_of(text: str) -> bytes:
     """The bytes of a line of a file."""
-    return re.sub(rb"\\x(..)", lambda found: bytes.fromhex(found[1].decode()), text.encode())
+    whole = re.sub(r"\\\{(.+?)\*(\d+)\}", lambda found: found[1] * int(found[2]), text)
+    return re.sub(rb"\\x(..)", lambda found: bytes.fromhex(found[1].decode()), whole.encode())
 
 
 def transcripts(file: Path) -> dict[str, Transcript]:

@@ -1,4 +1,4 @@
-"""Audits and their answers: those of lines/audits.txt, and those of many forms or of great length.
+"""Audits and their answers: those of lines/audits.txt, and those of many forms or of many lines.
 Each answer is written by hand from docs/PROTOCOL.md."""
 
 from collections.abc import Iterable
@@ -6,7 +6,7 @@ from collections.abc import Iterable
 from faults.line_faults import Field, object_of
 from models.reading import EVENTS, STEPS
 from program.lines import BAD, BAD_NUMBERS, BAD_VALUES, GOOD, HERE, MISSING, NOT_JSON, NOT_OBJECT
-from program.lines import TOO_LONG, TOO_MANY, UNKNOWN_FIELD, UNKNOWN_OP, Case, Cases, line_of
+from program.lines import TOO_MANY, UNKNOWN_FIELD, UNKNOWN_OP, Case, Cases, line_of
 from running import joined
 from transcripts import transcripts
 
@@ -65,10 +65,6 @@ def refusals() -> Cases:
     for value in BAD_NUMBERS:
         bad = step_line("look", but=["actor"], extra=[("actor", value)])
         yield audit_of(f"bad-actor-{value}", BAD, bad)
-    rows = [THREE, GOAL, STEP, b'{"actor":1,"op":"read","over":9}']
-    for name, count in [("configuration", 0), ("goal", 1), ("step", 4)]:
-        yield audited(f"{name}-of-16385-bytes", TOO_LONG, *rows[:count], b" " * 16385, STEP)
-    yield audit_of("step-of-16384-bytes", SHARED, STEP.ljust(16384))
     yield audited("last-line-without-a-line-feed", SHARED, THREE, GOAL, end=STEP)
     yield audited("cut-in-a-step", NOT_JSON, THREE, GOAL, STEP, end=STEP[:20])
     # The configuration and the goal count, so that the line after the millionth is the 999,999th

@@ -18,24 +18,18 @@ from models.reading import line_of, read_config
 from program.lines import HERE
 from program.programs import CONFIG
 from running import asked, instructions, joined, ran
-from server.servers import CREATE, HELLO, LONG, NO_MEMORY, SHADE, TOO_LONG
+from server.servers import CREATE, HELLO, NO_MEMORY, SHADE
 from transcripts import Transcript, transcripts
 
 RUNS = 120
 LINES = 40_000
 MOST_SLOTS = 65_536
-PICTURES = transcripts(HERE / "pictures.txt")
 COLLECT = b'{"op":"collect"}\n'
 
 
 def drawn(program: Path, given: bytes, *words: str) -> tuple[bytes, int]:
     """What is drawn for an input, and the status."""
     return asked(program, "draw", *words, given=given)
-
-
-def alone(given: bytes, wanted: bytes, status: int, *words: str) -> Test:
-    """An input whose pictures are these."""
-    return lambda program: same(drawn(program, given, *words), (wanted, status))
 
 
 def last_of(found: Transcript) -> Test:
@@ -83,17 +77,18 @@ def random_pictures(program: Path) -> None:
                 check_parsed(course, shot)
 
 
-def memory_refused(given: bytes, which: str, *words: str) -> Test:
+def memory_refused(which: str) -> Test:
     """Without memory for a picture its line is `out of memory`, and the picture after the next line
     is there. What comes of alice's line without memory is in its picture, and in the next one. Each
     allocation fails in turn: the output is one of these, and that of each kind that has `picture`
     in its name is seen."""
     ends = transcripts(HERE / f"{which}_without_memory.txt")
+    run = next(iter(ends.values()))
     known = {(found.wanted, 1): name for name, found in ends.items()}
     known |= {**BEFORE_ANY, (NO_MEMORY, 1): "configuration not read"}
 
     def test(program: Path) -> None:
-        attempt = faults.runs(program, ["draw", *words], given)
+        attempt = faults.runs(program, run.words, run.given)
         counts = faults.memory_refused(attempt, one_of(known))
         tell_refused(counts)
         same([name for name in ends if "picture" in name and not counts[name]], [], "never seen")
@@ -133,10 +128,6 @@ def all_slots_are_drawn_at_once(program: Path) -> None:
 def tests() -> Tests:
     for name, found in transcripts(HERE / "last_pictures.txt").items():
         yield name, last_of(found)
-    lines, each = CONFIG + HELLO, PICTURES["picture-of-each-line"].wanted
-    last = transcripts(HERE / "last_without_memory.txt")["drawn"].wanted
-    yield "long-line-before-the-last-picture", alone(lines + LONG, last, 1)
-    yield "long-line-behind-each-picture", alone(lines + LONG, each + TOO_LONG, 1, "--each")
-    yield "memory-refused-to-the-last-picture", memory_refused(lines + LONG, "last")
-    yield "memory-refused-to-each-picture", memory_refused(lines + b"x\n", "each", "--each")
+    yield "memory-refused-to-the-last-picture", memory_refused("last")
+    yield "memory-refused-to-each-picture", memory_refused("each")
     yield from named(random_pictures, last_picture_is_cheap, all_slots_are_drawn_at_once)

@@ -1,4 +1,4 @@
-"""Lines and their answers: those that stand in lines/, and those of many forms or of great length.
+"""Lines and their answers: those that stand in lines/, and those of many forms or of many lines.
 Each answer is written by hand from docs/PROTOCOL.md."""
 
 import json
@@ -96,9 +96,7 @@ def written() -> Cases:
 
 
 def refusals() -> Cases:
-    """Lines that are nested deeply, and each fault of each field of an op."""
-    yield run("not-json-128-levels", (b"[" * 128 + b"]" * 128, NOT_JSON), (LOOK, SEEN))
-    yield run("not-an-object-127-levels", (b"[" * 127 + b"]" * 127, NOT_OBJECT), (LOOK, SEEN))
+    """Each fault of each field of an op."""
     for op, fields in EVENTS.items():
         for name in fields:
             yield run(f"missing-{name}-of-{op}", (line_of(op, but=[name]), MISSING), (LOOK, SEEN))
@@ -112,28 +110,6 @@ def refusals() -> Cases:
             yield run(f"{name}-{op}", (line, UNKNOWN_FIELD), (LOOK, SEEN))
     ops = [op for op in EVENTS if op not in ("hello", "collect", "cycle")]
     yield run("no-actor", *[(line_of(op, extra=[("seat", "1")]), NO_ACTOR) for op in ops])
-
-
-def texts() -> Cases:
-    """Long texts that are written and read back."""
-    made = [
-        (b'{"kind":"document","op":"create","rights":"rw"}', b'{"ok":"created","vertex":3}'),
-        (b'{"op":"shade"}', b'{"shaded":3}'),
-    ]
-
-    def kept(name: str, given: bytes, answered: bytes, answer: bytes = b'{"ok":"done"}') -> Case:
-        write = b'{"op":"write","over":3,"text":"%s"}' % given
-        read = b'{"op":"read","over":3}', b'{"ok":"text","text":"%s"}' % answered
-        return run(name, *made, (write, answer), read)
-
-    yield kept("text-of-4096-letters", b"a" * 4096, b"a" * 4096)
-    yield kept("text-of-4096-bytes-in-2048-letters", "é".encode() * 2048, "é".encode() * 2048)
-    yield kept("text-of-4096-bytes-by-escapes", b"\\u00e9" * 2048, "é".encode() * 2048)
-    yield kept("text-of-4098-bytes-by-escapes", b"\\u00e9" * 2049, b"", BAD)
-    # A text of 4,096 bytes whose escapes make the line longer than 16,384 bytes is too long a line,
-    # which ends the run.
-    escaped = b'{"op":"write","over":3,"text":"' + b"\\u0061" * 4096 + b'"}'
-    yield ended("text-of-4096-bytes-on-too-long-a-line", joined(escaped, LOOK), TOO_LONG)
 
 
 def ended(name: str, given: bytes, answer: bytes, begin: bytes = joined(CONFIG, HELLO)) -> Case:
@@ -153,14 +129,7 @@ def ends() -> Cases:
     yield ended("configuration-without-a-line-feed", CONFIG, b"", b"")
     yield ended("line-feed-at-the-end-begins-no-line", b"", b"")
     yield ended("two-line-feeds-at-the-end-are-an-empty-line", b"\n", NOT_JSON)
-    yield run("line-of-16384-bytes", (LOOK.ljust(16384), SEEN), (LOOK, SEEN))
-    yield ended("line-of-16385-bytes-ends-the-run", joined(b"x" * 16385, LOOK), TOO_LONG)
-    white = joined(LOOK.ljust(16385), LOOK)
-    yield ended("16385-bytes-of-white-space-and-an-object", white, TOO_LONG)
     yield ended("last-line-too-long-without-a-line-feed", b"x" * 100000, TOO_LONG)
-    yield refused_opening("configuration-of-16385-bytes", CONFIG.ljust(16385), TOO_LONG)
-    longest = Transcript([CONFIG.ljust(16384), HELLO], [WELCOME])
-    yield case_of("configuration-of-16384-bytes", longest)
     # The configuration line counts, so that the line after the millionth is the millionth after it.
     most, last = joined(NOT_JSON) * 999999, joined(NOT_JSON) * 999999 + joined(TOO_MANY)
     for name, given, wanted in [
@@ -197,5 +166,5 @@ def configurations() -> Cases:
 
 def tests() -> Cases:
     """All runs."""
-    for group in (refusals, texts, ends, configurations, written):
+    for group in (refusals, ends, configurations, written):
         yield from group()

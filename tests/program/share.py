@@ -10,7 +10,7 @@ from fuzz.sharing import NEVER, NO_SERIAL, SHARED, audited, shared
 from models.reading import line_of
 from program.lines import HERE
 from running import example, ran
-from server.servers import HELLO, LONG, NO_MEMORY, SHADE, TOO_LONG
+from server.servers import HELLO, NO_MEMORY, SHADE
 from transcripts import transcripts
 
 # Alice can take a right that bob has.
@@ -20,12 +20,6 @@ RIGHT = transcripts(HERE / "questions.txt")["a-right-that-can-be-taken"]
 def words(start: str, end: str, rights: str, *more: str) -> list[str]:
     """The words of a question."""
     return ["--from", start, "--to", end, "--rights", rights, *more]
-
-
-def a_line_that_ends_the_run_and_no_answer(program: Path) -> None:
-    """A line that ends the run ends it without an answer."""
-    given = RIGHT.lines[0] + b"\n" + LONG
-    same(shared(program, given, *RIGHT.words[1:]), (TOO_LONG, 1))
 
 
 def help_on_share(program: Path) -> None:
@@ -91,6 +85,5 @@ def a_question_about_all_slots(program: Path) -> None:
 
 
 def tests() -> Tests:
-    yield from named(a_line_that_ends_the_run_and_no_answer)
     yield from named(help_on_share, no_serial_left_for_a_question, memory_refused_to_a_question)
     yield from named(a_question_about_all_slots, example_of_a_leak)

@@ -35,8 +35,6 @@ READ = b'{"op":"read","over":3}\n'
 WRITE, DONE = b'{"op":"write","over":3,"text":"%s"}\n', b'{"ok":"done"}\n'
 BYE, PARTED = b'{"op":"bye"}\n', b'{"ok":"bye"}\n'
 SHADE = b'{"op":"shade"}\n'
-# Lines that are too long, and that are refused for want of memory, with what is said of them.
-LONG, TOO_LONG = b" " * 16_385 + b"\n", b'{"error":"line too long"}\n'
 NO_MEMORY = b'{"error":"out of memory"}\n'
 # The words for a free port of the loopback.
 ANY_PORT = ("--listen", "127.0.0.1:0")
