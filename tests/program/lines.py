@@ -86,7 +86,16 @@ def refused_opening(name: str, line: bytes, answer: bytes) -> Case:
 
 def written() -> Cases:
     """Those that stand in files."""
-    for file in ("session", "openings", "questions", "questions_of_runs", "pictures", "words"):
+    files = (
+        "session",
+        "openings",
+        "questions",
+        "questions_of_runs",
+        "pictures",
+        "words",
+        "servers",
+    )
+    for file in files:
         for name, found in transcripts(HERE / f"{file}.txt").items():
             yield case_of(name, found)
     for name, found in transcripts(HERE / "refused.txt").items():

@@ -13,7 +13,7 @@ from faults import faults
 from faults.faults import Fault
 from program.programs import refused
 from running import SECONDS, asked, ran, started, tell, unreadable
-from server.servers import AGREED, ANY_PORT, CONFIG, NOT_JSON, Server, is_silent, running, served
+from server.servers import AGREED, ANY_PORT, CONFIG, Server, is_silent, running, served
 from tgdoc_client import Client
 
 LISTEN = b'{"error":"listen"}\n'
@@ -47,9 +47,9 @@ def has_loopback_of_ipv6() -> bool:
     return True
 
 
-def not_served(answer: bytes, address: str, config: bytes = CONFIG, connections: str = "1") -> Test:
+def not_served(address: str, config: bytes = CONFIG, answer: bytes = LISTEN) -> Test:
     """A server that does not listen: its one line, and status 1."""
-    words = ("serve", "--listen", address, "--connections", connections)
+    words = ("serve", "--listen", address, *ONE)
     return lambda program: same(asked(program, *words, given=config), (answer, 1))
 
 
@@ -69,7 +69,7 @@ def addresses_of_this_machine() -> list[str]:
 def address_in_use(program: Path) -> None:
     """An address at which another program listens."""
     with socket.create_server(("127.0.0.1", 0)) as other:
-        not_served(LISTEN, f"127.0.0.1:{other.getsockname()[1]}")(program)
+        not_served(f"127.0.0.1:{other.getsockname()[1]}")(program)
 
 
 def server_whose_input_cannot_be_read(program: Path) -> None:
@@ -148,22 +148,8 @@ def helped(named: list[str], *words: str) -> Test:
     return test
 
 
-# Addresses at which no server listens, but for those of other machines and of other parts of this
-# one.
-NO_ADDRESSES = ["nonsense", "127.0.0.1", "localhost:0", "127.0.0.1:65536", ":0", ""]
+# Addresses of other machines and of other parts of this one.
 OTHERS = ["0.0.0.0", "[::]", "[::ffff:127.0.0.1]", "192.0.2.1"]
-
-NO_VAULTS = [
-    ("no-configuration", b"", NOT_JSON),
-    ("configuration-that-is-no-json", b'{"principals":["alice"]\n', NOT_JSON),
-    ("configuration-that-is-too-long", b" " * 16_385, b'{"error":"line too long"}\n'),
-    ("configuration-without-principals", b"{}\n", b'{"error":"missing field"}\n'),
-    (
-        "configuration-with-a-fault",
-        b'{"principals":["alice","alice"]}\n',
-        b'{"error":"config","fault":2}\n',
-    ),
-]
 
 
 def tests_of_listening() -> Tests:
@@ -180,15 +166,10 @@ def tests_of_listening() -> Tests:
         yield "loopback-of-ipv6-in-full", whole
     yield from named(address_in_use)
     others = [*OTHERS, *addresses_of_this_machine()]
-    addresses = [f"{other}:{port}" for other in others for port in (0, free_port())]
-    for address in [*addresses, *NO_ADDRESSES]:
-        yield f"no-listener-on-{address or 'nothing'}", not_served(LISTEN, address)
-    many = not_served(LISTEN, "nonsense", connections="1000000")
-    yield "no-listener-for-a-million-connections", many
-    for name, config, answer in NO_VAULTS:
-        yield name, not_served(answer, "127.0.0.1:0", config)
-    first = not_served(b'{"error":"not an object"}\n', "nonsense", b"[]\n")
-    yield "configuration-before-address", first
+    for address in [f"{other}:{port}" for other in others for port in (0, free_port())]:
+        yield f"no-listener-on-{address}", not_served(address)
+    long = not_served("127.0.0.1:0", b" " * 16_385, b'{"error":"line too long"}\n')
+    yield "configuration-that-is-too-long", long
     unended = accepted(*ANY_PORT, *ONE, config=CONFIG[:-1], is_whole=True)
     yield "configuration-without-line-feed", unended
     yield from named(server_without_random_numbers, server_whose_input_cannot_be_read)
