@@ -6,71 +6,15 @@ mark, lengths about the longest). What is wrong with a line, if anything, is not
 """
 
 from collections.abc import Iterable
+from pathlib import Path
 from random import Random
 
 from models.reading import EVENTS, LONGEST_LINE, MOST_LEVELS
+from transcripts import transcripts
 
 # A key and its value as JSON.
 Field = tuple[str, str]
 Fields = list[Field]
-
-NUMBERS = """0 1 2 3 4 63 64 65 65536 65537 1048576 1048577 -1 -0 -3 -18446744073709551616
-4294967296 9223372036854775807 9223372036854775808 18446744073709551614
-18446744073709551615 18446744073709551616 99999999999999999999 100000000000000000000 1.0 3.5
--0.0 1e0 3E0 1e+0 1e-0 0e0
-0.3e1 0e400 1e-400 1e308 -1e308 1.7976931348623158e308 1e-999999999999999999999
-18446744073709551616.0 -18446744073709551616e0""".split()
-# The greatest whole number that is nearer to a float than to what is beyond the range is among
-# them; the next one is not JSON.
-LIMIT = 2**1024 - 2**970
-NUMBERS += ["9" * 19, "9" * 21, "9" * 308, "-" + "9" * 308, str(LIMIT - 1), "0." + "0" * 5000 + "1"]
-NO_NUMBERS = """1e400 -1e400 1e309 1.7976931348623159e308 1E999999999999999999999 01 00 +1 .5 1. 1e
-1e+ 0x10 1_0 - -- NaN Infinity -Infinity nan ١ ３""".split()
-NO_NUMBERS += [str(LIMIT), str(-LIMIT), "9" * 309, "1" + "0" * 5000, "-" + "9" * 400]
-OTHER_VALUES = """null true false [] {} [1] [[]] [null] {"a":1} [{}] [[1,"tg",2]] ["alice"] [1.5]
-{"a":{"a":1}} "" "a" "1" "null" """.split()
-NO_VALUES = """True None nul 'a' a undefined [1,] [,1] {"a"} {"a":} {a:1} {1:1} {"a":1,} [1
-"a""".split()
-LETTERS_OF_RIGHTS = ["rr", "ww", "tt", "gg", "gwg", "rwtgr", "R", "x", "r w", " r", "r\\n"]
-LETTERS_OF_RIGHTS += ["\\u0072", "\\u0072r", "ŕ", "rwtg", "gtwr", "", "g", "tw", "\\u0000"]
-WORDS = ["Subject", "document ", "object", "documen", "DOCUMENT", "\\u0064ocument", "alice\\u0000"]
-WORDS += ["Alice", "bob", "carol", "hell\\u006f", "look", "LOOK", "bye"]
-WORDS += ["enrol", "Enrol", "enroll", "retire", "retir\\u0065", "retired"]
-WORDS += ["assume", "Assume", "assum\\u0065", "leave", "Leave", "leaves"]
-ESCAPES = ["\\u0061", "\\u00E9", "\\u00e9", "\\uD83D\\uDE00", "\\ud83d\\ude00", "\\ud83d"]
-ESCAPES += ["\\ude00", "\\ude00\\ud83d", "\\ud83d\\u0061", "\\ud83d\\ud83d\\ude00"]
-ESCAPES += ["\\uD800\\uDC00", "\\uDBFF\\uDFFF", "\\udbff", "\\udfffx", "\\ud83d \\ude00", "\\uffff"]
-ESCAPES += ["\\u0000", "\\u001F", "\\/", "\\\\", '\\"', "\\b\\f\\n\\r\\t"]
-ESCAPES += ["\\x61", "\\u61", "\\u006", "\\u00g1", "\\U0061", "\\u{61}", "\\a", "\\'", "\\0", "\\"]
-ESCAPES += ["\\u", "\\u+061", "\\u 061"]
-BROKEN = [b"\x80", b"\xff", b"\xfe\xff", b"\xc0\xaf", b"\xc1\xbf", b"\xe0\x80\xaf", b"\xed\xa0\x80"]
-BROKEN += [b"\xed\xbf\xbf", b"\xf0\x80\x80\xaf", b"\xf4\x90\x80\x80"]
-BROKEN += [b"\xc3", b"\xe2\x82", b"\xf0\x9f\x98", b"\xf8\x88\x80\x80\x80", b"\xc3\x28"]
-WHOLE = ["é", "😀", "\u2028", "\ufeff", "\ufffd", "\uffff", "\U0010ffff", "\x7f", "\x80", "\xa0"]
-CONTROLS = [bytes([byte]) for byte in range(32) if byte != 10]
-KEYS = ["x", "Seat", "OP", "op ", "", "\\u0000", "actor", "next", "slots", "edges", "principals"]
-KEYS += ["кey", "over", "from", "to", "at", "seat", "name", "text", "kind", "agent"]
-NAMES = ["a", "z" * 32, "z" * 33, "a1", "a b", "a-b", " a", "a\\n", "\\u0061", "a\\u0000", "é", "@"]
-NAMES += ["`", "{", "ALICE"]
-GOOD = {
-    "name": ['"alice"', '"bob"', '"carol"'],
-    "rights": ['"r"', '"tg"', '"rwtg"', '"w"'],
-    "kind": ['"document"', '"subject"'],
-    "text": ['"hi"', '""', '"é😀"'],
-    "principals": ['["alice","bob"]', '["alice","bob","carol"]', '["alice","bob"]', '["alice"]'],
-    "edges": ['[[1,"tg",2]]', '[[1,"r",2],[2,"w",1]]', '[[2,"",1],[1,"t",2]]', "[]"],
-    "slots": ["64", "8"],
-    "cells": ["64", "8"],
-    "next": ["9", "3"],
-    "actor": ["1", "2"],
-    "seat": ["0", "0", "1", "2"],
-}
-SERIALS = ["1", "2", "3", "4", "99"]
-
-
-def quoted(words: Iterable[str]) -> list[str]:
-    """Texts as JSON, if they need no escapes."""
-    return [f'"{word}"' for word in words]
 
 
 def names(count: int) -> list[str]:
@@ -78,26 +22,40 @@ def names(count: int) -> list[str]:
     return ["a" * (it % 26 + 1) + "b" * (it // 26) for it in range(count)]
 
 
+def quoted(words: Iterable[str]) -> list[str]:
+    """Texts as JSON, if they need no escapes."""
+    return [f'"{word}"' for word in words]
+
+
+FILE = transcripts(Path(__file__).with_name("values.txt"))
+VALUES = {name: [line.decode() for line in found.lines] for name, found in FILE.items()}
+GOOD = {name[5:]: values for name, values in VALUES.items() if name.startswith("good-")}
+SERIALS = ["1", "2", "3", "4", "99"]
+# The greatest whole number that is nearer to a float than to what is beyond the range is among
+# them; the next one is not JSON.
+LIMIT = 2**1024 - 2**970
+NUMBERS = VALUES["numbers"] + [str(LIMIT - 1), "0." + "0" * 5000 + "1"]
+NO_NUMBERS = VALUES["no-numbers"] + [str(LIMIT), str(-LIMIT), "9" * 309, "1" + "0" * 5000]
+NO_NUMBERS.append("-" + "9" * 400)
+BROKEN = [b"\x80", b"\xff", b"\xfe\xff", b"\xc0\xaf", b"\xc1\xbf", b"\xe0\x80\xaf", b"\xed\xa0\x80"]
+BROKEN += [b"\xed\xbf\xbf", b"\xf0\x80\x80\xaf", b"\xf4\x90\x80\x80"]
+BROKEN += [b"\xc3", b"\xe2\x82", b"\xf0\x9f\x98", b"\xf8\x88\x80\x80\x80", b"\xc3\x28"]
+CONTROLS = [bytes([byte]) for byte in range(32) if byte != 10]
+
 # Values at and beyond what a field may have; if a field is not named, those of numbers.
-SIXTY_FOUR = ",".join(quoted(names(64)))
-BOBS = ["", "Alice", "al ice", "alice1", "ali\\u0063e", "bo\\u0062", "é", "alice\\n"]
-ODD_EDGES = """[1,"t",3] [0,"t",1] [1,"t",1] [1,"",2] [1,"t",2],[1,"r",2] [2,"t",1],[1,"t",2]"""
-BAD_EDGES = """[1,"tt",2] [1,"t",2,3] [1,"t"] [1.0,"t",2] [1,"t",2e0] [-1,"t",2] 1,"t",2
-    [1,"t",2],null ["1","t","2"] [1,null,2] [1,["t"],2] [2,"x",2]"""
+NOBODY, *OTHERS = VALUES["limit-principals"]
+MOST = ",".join(quoted(names(64)))
+WORDS = ["", *VALUES["words"]]
 AT_A_LIMIT = {
-    "rights": quoted(LETTERS_OF_RIGHTS),
-    **dict.fromkeys(["kind", "op"], quoted(["", *WORDS])),
-    "name": quoted(["", *WORDS, *NAMES]),
-    "slots": ["0", "1", "2", "3", "65536", "65537"],
-    "cells": ["0", "1", "1", "2", "1048576", "1048577"],
-    "next": ["0", "1", "2", "3", "18446744073709551614", "18446744073709551615"],
-    "principals": [
-        *["[]", f"[{SIXTY_FOUR}]", f'[{SIXTY_FOUR},"z"]', f'["{"z" * 32}"]', f'["{"z" * 33}"]'],
-        *['["alice","alice"]', '["alice",null]'],
-        *[f'["{word}","bob"]' for word in BOBS],
-    ],
-    "edges": [f"[{edges}]" for edges in ODD_EDGES.split() * 3 + BAD_EDGES.split()],
+    "rights": quoted(VALUES["rights"]),
+    **dict.fromkeys(["kind", "op"], quoted(WORDS)),
+    "name": quoted([*WORDS, *VALUES["names"]]),
+    **{name: VALUES[f"limit-{name}"] for name in ("slots", "cells", "next")},
+    "principals": [NOBODY, f"[{MOST}]", f'[{MOST},"z"]', *OTHERS],
+    "edges": VALUES["odd-edges"] * 3 + VALUES["bad-edges"],
 }
+# What may stand in a text.
+ODD = [VALUES[name] for name in ("escapes", "whole", "rights", "words")]
 
 
 def text_of_bytes(source: Random) -> str:
@@ -124,7 +82,7 @@ def text(source: Random) -> str:
     kind = source.randrange(5)
     if kind == 0:
         return text_of_bytes(source)
-    inside = source.choice([ESCAPES, WHOLE, LETTERS_OF_RIGHTS, WORDS][kind - 1])
+    inside = source.choice(ODD[kind - 1])
     return f'"{inside}"' if source.random() < 0.7 else f'"ab{inside}c"'
 
 
@@ -132,10 +90,11 @@ def value(source: Random) -> str:
     """Any value, as JSON or nearly so."""
     kind = source.randrange(10)
     if kind == 0:
-        return source.choice([*NO_NUMBERS, *NO_VALUES])
+        return source.choice([*NO_NUMBERS, *VALUES["no-values"]])
     if kind == 1:
         return nested(source)
-    return text(source) if kind < 5 else source.choice(NUMBERS if kind < 8 else OTHER_VALUES)
+    others = NUMBERS if kind < 8 else VALUES["other-values"]
+    return text(source) if kind < 5 else source.choice(others)
 
 
 def rewritten(source: Random, word: str) -> str:
@@ -154,7 +113,10 @@ def rewritten(source: Random, word: str) -> str:
 def renamed(source: Random, fields: Fields, at: int) -> None:
     """Another key in place of one."""
     key, given = fields[at]
-    fields[at] = (source.choice([source.choice(KEYS), key.upper(), key + "s", key[1:]]), given)
+    fields[at] = (
+        source.choice([source.choice(VALUES["keys"]), key.upper(), key + "s", key[1:]]),
+        given,
+    )
 
 
 def doubled(source: Random, fields: Fields, at: int) -> None:
@@ -207,12 +169,12 @@ def wrapped(source: Random, fields: Fields, at: int) -> None:
 def moved_inside(source: Random, fields: Fields, at: int) -> None:
     """A field inside the value of another."""
     key, given = fields[at]
-    fields[at] = (source.choice(KEYS), f'{{"{key}":{given}}}')
+    fields[at] = (source.choice(VALUES["keys"]), f'{{"{key}":{given}}}')
 
 
 def added(source: Random, fields: Fields, at: int) -> None:
     """One more field, which may be one of another op."""
-    fields.insert(at, (source.choice(KEYS), value(source)))
+    fields.insert(at, (source.choice(VALUES["keys"]), value(source)))
 
 
 IN_FIELDS = [renamed, doubled, escaped_key, escaped_value, removed, replaced]
@@ -230,7 +192,11 @@ def cut(source: Random, line: bytes) -> bytes:
 def spoilt(source: Random, line: bytes) -> bytes:
     """Some bytes put in, or in place of others."""
     at, end = source.randrange(len(line) + 1), source.randint(0, 2)
-    kinds = [source.choice(BROKEN), source.choice(CONTROLS), source.choice(WHOLE).encode()]
+    kinds = [
+        source.choice(BROKEN),
+        source.choice(CONTROLS),
+        source.choice(VALUES["whole"]).encode(),
+    ]
     odd = source.choice([*kinds, bytes([source.choice([*range(10), *range(11, 256)])])])
     return line[:at] + odd + line[at + end :]
 
@@ -291,10 +257,10 @@ def fields_of(source: Random, form: str) -> Fields:
     known = {"config": ["principals"], "goal": ["from", "to", "rights"]}.get(form) or EVENTS[form]
     others = ["seat"] if form in EVENTS else []
     others = ["edges", "slots", "cells", "next"] if form == "config" else others
-    names = [*known, *[name for name in others if source.random() < 0.5]]
+    keys = [*known, *[name for name in others if source.random() < 0.5]]
     is_config = form == "config"
-    values = [AT_A_LIMIT if is_config and source.random() < 0.3 else GOOD for _ in names]
-    fields = [(it, source.choice(given.get(it, SERIALS))) for it, given in zip(names, values)]
+    values = [AT_A_LIMIT if is_config and source.random() < 0.3 else GOOD for _ in keys]
+    fields = [(it, source.choice(given.get(it, SERIALS))) for it, given in zip(keys, values)]
     fields += [("op", f'"{form}"')] if form in EVENTS else []
     source.shuffle(fields)
     return fields
