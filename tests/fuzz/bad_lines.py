@@ -20,6 +20,7 @@ from models.reading import EVENTS, LONGEST_LINE, STEPS, Refused, line_of, read_c
 from models.reading import read_goal, read_step
 from models.storage import Run
 from running import asked, joined
+from transcripts import transcripts
 
 T = TypeVar("T")
 
@@ -30,21 +31,7 @@ LINES_OF_A_RUN = 500
 FORMS = [form for form in EVENTS for _ in range({"retire": 1, "assume": 2}.get(form, 8))]
 
 CONFIG = b'{"principals":["alice","bob"],"edges":[[1,"tg",2],[2,"r",1]],"slots":64,"cells":256}'
-BEGIN = [
-    b'{"op":"hello","name":"alice"}',
-    b'{"op":"hello","name":"bob","seat":1}',
-    b'{"op":"create","kind":"document","rights":"rw"}',
-    b'{"op":"shade"}',
-    b'{"op":"write","over":3,"text":"kept"}',
-]
-# Sent again and again between the bad lines: their answers would show a change.
-PROBES = [
-    b'{"op":"hello","name":"alice"}',
-    b'{"op":"shade"}',
-    b'{"op":"look","at":1}',
-    b'{"op":"read","over":3}',
-    b'{"op":"look","at":2,"seat":1}',
-]
+BEGIN, PROBES = (it.lines for it in transcripts(Path(__file__).with_suffix(".txt")).values())
 
 
 def config_of(source: Random) -> bytes:
