@@ -30,6 +30,7 @@ from faults.faults import Fault, Ran
 from models.graph import Graph
 from models.reading import Event, line_of, read_config, read_step
 from running import ROOT, Process, Word, asked, hear, ran, started, tell
+from server.listening import free_port
 from server.servers import AGREED, ANY_PORT, BYE, CONFIG, CREATE, CREATED, HELLO, LOOK, PARTED, READ
 from server.servers import SEEN, WELCOME, WRITE, Server, busy_part, in_rounds, is_silent, read_all
 from server.servers import read_line, running, takes
@@ -67,9 +68,9 @@ class Attended(Server):
         """What the server says of itself."""
         return self.ask(op="status")
 
-    def stop(self, ends: tuple[bytes, int] = AGREED) -> None:
-        """Tells the server to stop at once; it ends in this way."""
-        self.ask(op="stop", within=0)
+    def stop(self, ends: tuple[bytes, int] = AGREED, within: int = 0) -> None:
+        """Tells the server to stop, at once or within so many seconds; it ends in this way."""
+        same(self.ask(op="stop", within=within), {"ok": "stop"})
         same(self.end(), ends, "the end of the server")
 
     def errors(self) -> list[dict[str, Any]]:
@@ -126,8 +127,7 @@ def stop_beside_another(program: Path) -> None:
 def stop_before_anybody_came(program: Path) -> None:
     """So does one at which nobody was."""
     with attended(program, "--connections", "5") as server:
-        same(server.ask(op="stop", within=0), {"ok": "stop"})
-        same(server.end(), AGREED)
+        server.stop()
 
 
 def stop_before_the_configuration(program: Path) -> None:
@@ -190,8 +190,7 @@ def stop_while_a_client_takes_no_answers(program: Path) -> None:
         sends_all(one, READ * 1_000, 900)
         wait_while_it_works(server)
         with takes(1, 10):
-            same(server.ask(op="stop", within=1), {"ok": "stop"})
-            same(server.end(), AGREED)
+            server.stop(within=1)
 
 
 def stop_while_a_client_reads_a_little(program: Path) -> None:
@@ -490,12 +489,9 @@ def end_while_no_answer_is_taken_at_the_control_socket(program: Path) -> None:
     """A client at the socket that takes no answers does not hold up the end of the server."""
     with attended(program) as server, server.attendant() as one:
         server.greet()
-        began = time.monotonic()
-        one.sendall(b'{"op":"stop","within":0}\n' + b'{"op":"status"}\n' * 5_000)
-        same(server.end(), AGREED)
-        took = time.monotonic() - began
-    print(f"  {took:.1f} s")
-    assert took < 4.0, "not in time"
+        with takes(0, 4):
+            one.sendall(b'{"op":"stop","within":0}\n' + b'{"op":"status"}\n' * 5_000)
+            same(server.end(), AGREED)
 
 
 def slow_at_the_control_socket(program: Path) -> None:
@@ -707,13 +703,10 @@ def watching_ends_with_an_error(program: Path) -> None:
 
 def control_without_an_answer(program: Path) -> None:
     """A server that does not answer is waited for for ten seconds, and standard error says so."""
-    with answering() as path:
-        began = time.monotonic()
+    with answering() as path, takes(9, 20):
         found = ran(program, "control", path, "status")
-        took = time.monotonic() - began
-        said = f"tgdoc: {path}: no answer within 10 seconds\n".encode()
+    said = f"tgdoc: {path}: no answer within 10 seconds\n".encode()
     same((found.stdout, found.stderr, found.returncode), (b"", said, 1))
-    assert 9.0 < took < 20.0, f"after {took:.1f} s"
 
 
 def control_that_is_suspended(program: Path) -> None:
@@ -737,8 +730,7 @@ def control_that_is_suspended(program: Path) -> None:
 def exporter_answers(_program: Path) -> None:
     """The exporter answers 503 if the server answers with an error, and with the numbers of a
     status, though a client before is silent."""
-    with socket.create_server(("127.0.0.1", 0)) as free:
-        port = free.getsockname()[1]
+    port = free_port()
     with answering(NO_MEMORY, IDLE) as path, contextlib.ExitStack() as stack:
         words = [sys.executable, str(ROOT / "examples" / "exporter"), str(path), str(port)]
         exporter = subprocess.Popen(words, stderr=subprocess.DEVNULL)
