@@ -14,7 +14,7 @@ from pathlib import Path
 
 from checking import Test, Tests, named, same
 from running import ROOT, SECONDS, Process, hear, ran, rest_of, started, tell
-from server.servers import AGREED, Server, running
+from server.servers import AGREED, ANY_PORT, Server, running
 
 SHELL = ROOT / "examples" / "shell" / "shell"
 # What a person types stands behind these, in a README and elsewhere.
@@ -135,26 +135,14 @@ def shell_of_the_readme(program: Path) -> None:
     same((text.splitlines()[:-1], status), (shown, 0))
 
 
-OF_ANOTHER = """> as alice
-alice> create document r
-Document 2: alice has r over it.
-alice> read 2
-(an empty text)
-alice> share r 2 alice
-This server is not"""
-
-
 def shell_on_another_server(program: Path) -> None:
     """On a server that is not its own the shell talks, and says what it cannot tell."""
-    words, config = ("--listen", "127.0.0.1:0", "--connections", "1"), b'{"principals":["alice"]}\n'
-    with running(program, *words, config=config) as process:
+    config = b'{"principals":["alice"]}\n'
+    with running(program, *ANY_PORT, "--connections", "1", config=config) as process:
         server = Server(process)
-        typed = ["as alice", "create document r", "read 2", "share r 2 alice", "bye"]
         host, port = server.address
-        text, status = session(program, typed, "--connect", f"{host}:{port}")
+        printed("on-another-server", "--connect", f"{host}:{port}", status=1)(program)
         same(server.end(), AGREED)
-    same((text[: len(OF_ANOTHER)], status), (OF_ANOTHER, 1))
-    assert text.endswith("alice> bye\nBye.\n> \n"), text
 
 
 def no_program_and_no_rt(_: Path) -> None:
