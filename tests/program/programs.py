@@ -92,6 +92,17 @@ def refused(*words: Word) -> Test:
     return test
 
 
+def helped(named: list[str], *words: str) -> Test:
+    """Help on standard output, with status 0; it names these words."""
+
+    def test(program: Path) -> None:
+        found = ran(program, *words)
+        same((found.returncode, found.stderr), (0, b""))
+        same([word for word in named if word not in found.stdout.decode()], [], "not named")
+
+    return test
+
+
 def example_of(program: Path, named: list[str], *words: str) -> list[str]:
     """The words of the one example that ends a help text, which names certain words before."""
     found = ran(program, *words, "--help")

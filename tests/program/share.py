@@ -9,7 +9,8 @@ from faults.faults import BEFORE_ANY, one_of, tell_refused
 from fuzz.sharing import NEVER, NO_SERIAL, SHARED, audited, shared
 from models.reading import line_of
 from program.lines import HERE
-from running import example, ran
+from program.programs import helped
+from running import example
 from server.servers import HELLO, NO_MEMORY, SHADE
 from transcripts import transcripts
 
@@ -20,14 +21,6 @@ RIGHT = transcripts(HERE / "questions.txt")["a-right-that-can-be-taken"]
 def words(start: str, end: str, rights: str, *more: str) -> list[str]:
     """The words of a question."""
     return ["--from", start, "--to", end, "--rights", rights, *more]
-
-
-def help_on_share(program: Path) -> None:
-    """The help says what the options are."""
-    found = ran(program, "share", "--help")
-    named = [b"--from", b"--to", b"--rights", b"--steps", b"Letters", b"tgdoc share"]
-    same(found.returncode, 0)
-    same([word for word in named if word not in found.stdout], [], "not named")
 
 
 def no_serial_left_for_a_question(program: Path) -> None:
@@ -85,5 +78,7 @@ def a_question_about_all_slots(program: Path) -> None:
 
 
 def tests() -> Tests:
-    yield from named(help_on_share, no_serial_left_for_a_question, memory_refused_to_a_question)
+    options = ["--from", "--to", "--rights", "--steps"]
+    yield "help-on-share", helped([*options, "Letters", "tgdoc share"], "share", "--help")
+    yield from named(no_serial_left_for_a_question, memory_refused_to_a_question)
     yield from named(a_question_about_all_slots, example_of_a_leak)

@@ -11,7 +11,7 @@ from typing import Any
 from checking import Test, Tests, named, same
 from faults import faults
 from faults.faults import Fault
-from program.programs import refused
+from program.programs import helped, refused
 from running import SECONDS, asked, ran, started, tell, unreadable
 from server.servers import AGREED, ANY_PORT, CONFIG, Server, is_silent, running, served
 from tgdoc_client import Client
@@ -135,17 +135,6 @@ def most_connections(program: Path) -> None:
     """The greatest number of connections is taken."""
     with served(program, 1, 1_000_000, ends=None) as server:
         server.greet()
-
-
-def helped(named: list[str], *words: str) -> Test:
-    """Help on standard output, with status 0; it names these words."""
-
-    def test(program: Path) -> None:
-        found = ran(program, *words)
-        same((found.returncode, found.stderr), (0, b""))
-        same([word for word in named if word not in found.stdout.decode()], [], "not named")
-
-    return test
 
 
 # Addresses of other machines and of other parts of this one.
