@@ -28,13 +28,14 @@ from checking import Tests, named, same, skipped
 from faults import faults
 from faults.faults import Fault, Ran
 from models.graph import Graph
-from models.reading import Event, line_of, read_config, read_step
+from models.reading import read_config, read_event, read_step
 from running import ROOT, Process, Word, asked, hear, ran, started, tell
 from server.listening import free_port
 from server.servers import AGREED, ANY_PORT, BYE, CONFIG, CREATE, CREATED, HELLO, LOOK, PARTED, READ
 from server.servers import SEEN, WELCOME, WRITE, Server, busy_part, in_rounds, is_silent, read_all
 from server.servers import read_line, running, takes
 from server.waiting import sends_all
+from transcripts import transcripts
 
 # How a server ends that lacked memory for a client's buffers, of which a worker has two.
 SHORT = (b'{"settled":"no memory"}\n', 1)
@@ -523,22 +524,6 @@ def log_tells(program: Path) -> None:
     same([row for row in rows if "round" in row], rounds)
 
 
-# What alice does in a round: a grant and a write are denied, some changes no edge, and she enrols
-# another principal.
-WORK: list[Event] = [
-    {"op": "create", "kind": "document", "rights": "rw"},
-    {"op": "grant", "over": 3, "rights": "r", "to": 2},
-    {"op": "create", "kind": "subject", "rights": "tg"},
-    {"op": "grant", "over": 3, "rights": "r", "to": 4},
-    {"op": "remove", "over": 3, "rights": "w"},
-    {"op": "read", "over": 3},
-    {"op": "write", "over": 3, "text": "x"},
-    {"op": "enrol", "name": "dave", "rights": "g"},
-    {"op": "grant", "over": 4, "rights": "t", "to": 5},
-]
-ONE_MORE = {"op": "create", "kind": "document", "rights": "r"}
-
-
 def carried_out(graph: Graph, steps: list[dict[str, Any]]) -> int:
     """Carries out what is allowed in a model; how many commands that are."""
     return sum(
@@ -550,20 +535,22 @@ def carried_out(graph: Graph, steps: list[dict[str, Any]]) -> int:
 def history_replays(program: Path) -> None:
     """The history of each round that is settled has the commands that changed edges, as steps:
     replayed they lead to the graph of the model."""
-    sent = HELLO + b"".join(line_of(event) + b"\n" for event in WORK) + BYE
+    work, more = transcripts(Path(__file__).with_name("history.txt")).values()
     model, replayed = (Graph(read_config(LARGE.rstrip())) for _ in range(2))
     with tempfile.TemporaryDirectory() as folder:
         path = Path(folder) / "steps"
         with attended(program, "--history", str(path), config=LARGE) as server:
-            same(server.exchange(sent).count(b"\n"), len(WORK) + 2)
+            answers = server.exchange(HELLO + work.given + BYE)
+            same(answers.count(b"\n"), len(work.lines) + 2)
             server.ask(op="end round", within=0)
             until("another round", lambda: server.status()["round"] == 2)
-            server.exchange(HELLO + line_of(ONE_MORE) + b"\n" + BYE)
+            server.exchange(HELLO + more.given + BYE)
             server.ask(op="stop", within=0)
             same(server.end()[1], 0)
         steps = [read_step(line) for line in path.read_bytes().splitlines()]
-    same(carried_out(model, [{**event, "actor": 1} for event in WORK]), len(WORK) - 2)
-    same(carried_out(model, [{**ONE_MORE, "actor": 1}]), 1)
+    for told, denied in ((work, 2), (more, 0)):
+        events = [{**read_event(line), "actor": 1} for line in told.lines]
+        same(carried_out(model, events), len(events) - denied)
     same(carried_out(replayed, steps), len(steps))
     kept = (model.triples, model.kinds, model.next)
     same((replayed.triples, replayed.kinds, replayed.next), kept, f"after {steps}")
