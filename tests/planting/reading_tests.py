@@ -12,29 +12,7 @@ from planting.reading import Edit, Entry, entries_in
 from running import ROOT, ran
 from transcripts import transcripts
 
-TEXT = """# Bugs of src/rules.rt.
-
-one-line
-- let a = 1;
-+ let a = 2;
-
-# two edits, the second in another file, and of it a text of three lines
-several-lines
-- let b = 1;
-+
-in src/graph.rt
--     if b {
--
--     }
-+     if !b {
-+ - + #
-+     }
-
-last
-- c
-+  d
-- e
-+ f"""
+# The bugs of made_up/rules.rt.bugs.
 READ = {
     "one-line": [Edit("src/rules.rt", "let a = 1;", "let a = 2;")],
     "several-lines": [
@@ -70,8 +48,10 @@ def error_of(call: Callable[..., object], *given: object) -> str:
 
 
 def bugs_are_read(_: Path) -> None:
-    """Names, texts of one line and of several, an empty one, and other files."""
-    read = reading.bugs_in(TEXT, "src/rules.rt")
+    """Names, texts of one line and of several, an empty one, and other files; the last line has no
+    line feed."""
+    text = (HERE / "rules.rt.bugs").read_text(encoding="utf-8").removesuffix("\n")
+    read = reading.bugs_in(text, "src/rules.rt")
     same(list(read.items()), list(READ.items()))
 
 
