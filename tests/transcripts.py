@@ -2,10 +2,10 @@
 
 An entry is its name and, below it, what a line begins with two characters for:
 
-    $ words of a command line, if they are not those of the file
+    $ words of a command line
     > a line that is sent
     < a line that answers it
-    ! the status in the end, if no answer tells it
+    ! the status in the end, if it is not 1 for an error and 0 for none
 
 In a line \\{a*99} is what stands before the star so many times, and \\xff a byte by its number.
 Behind two blanks goes on what the line above has. What stands above the first name begins every
@@ -30,12 +30,11 @@ class Transcript:
     lines: list[bytes] = field(default_factory=list)
     answers: list[bytes] = field(default_factory=list)
     words: list[str] = field(default_factory=list)
-    status: int | None = None
+    told: int | None = None
 
     def __add__(self, other: "Transcript") -> "Transcript":
-        """One behind the other, with the words and the status of the later one."""
-        lines, answers = self.lines + other.lines, self.answers + other.answers
-        return Transcript(lines, answers, other.words or self.words, other.status)
+        """One behind the other, with the words of the first."""
+        return Transcript(self.lines + other.lines, self.answers + other.answers, self.words)
 
     @property
     def given(self) -> bytes:
@@ -46,6 +45,11 @@ class Transcript:
     def wanted(self) -> bytes:
         """The answers, each with its line feed."""
         return joined(*self.answers)
+
+    @property
+    def status(self) -> int:
+        """The status in the end: 1 if an answer is an error, unless another one is told."""
+        return int(b'"error"' in self.wanted) if self.told is None else self.told
 
     @property
     def pairs(self) -> list[Pair]:
@@ -73,7 +77,7 @@ def transcripts(file: Path) -> dict[str, Transcript]:
         elif mark == "$":
             entry.words = shlex.split(text)
         elif mark == "!":
-            entry.status = int(text)
+            entry.told = int(text)
         elif mark not in ("", "#"):
             assert row not in found, f"{file}: {row} stands twice"
             found[row] = entry = begin + Transcript()

@@ -107,20 +107,23 @@ def memory_refused(script: Transcript, to_the_end: bool = False) -> Test:
     return test
 
 
-def memory_of_one_answer_refused(word: str, cases: list[Transcript]) -> Test:
-    """Each allocation of runs with one answer fails: it is this, or `out of memory`."""
+def memory_of_one_answer_refused(cases: list[Transcript], least: int = 1) -> Test:
+    """Each allocation of runs with one answer fails: it is this, or `out of memory`, which it is so
+    many times at least."""
 
     def test(program: Path) -> None:
         counts: Counter[str] = Counter()
         for case in cases:
-            attempt = faults.runs(program, [word], case.given)
-            whole = case.wanted, int(case.answers != [SHARED])
+            attempt, whole = faults.runs(program, case.words, case.given), (
+                case.wanted,
+                case.status,
+            )
             same(attempt(Fault())[:2], whole, "with memory")
             no_memory = {(joined(NO_MEMORY), 1): "out of memory"}
             ends = {**BEFORE_ANY, **no_memory, whole: "answered all the same"}
             counts += faults.memory_refused(attempt, one_of(ends))
         tell_refused(counts)
-        assert counts["out of memory"] > 0, "nothing was out of memory"
+        assert counts["out of memory"] >= least, "too little was out of memory"
 
     return test
 
@@ -338,8 +341,8 @@ def tests() -> Tests:
     yield "memory-refused-in-a-run-without-errors", memory_refused(scripts.WITHOUT_ERRORS)
     yield "memory-refused-among-64-principals", memory_refused(scripts.CROWDED)
     yield "memory-refused-while-acting-for-another", memory_refused(scripts.ACTING)
-    refused_openings = memory_of_one_answer_refused("run", scripts.REFUSED_OPENINGS)
+    refused_openings = memory_of_one_answer_refused(scripts.REFUSED_OPENINGS)
     yield "memory-refused-at-refused-openings", refused_openings
-    yield "memory-of-audits-refused", memory_of_one_answer_refused("audit", scripts.AUDITS)
+    yield "memory-of-audits-refused", memory_of_one_answer_refused(scripts.AUDITS)
     yield "memory-of-texts-refused", memory_of_texts_refused
     yield from tests_of_devices()

@@ -72,7 +72,6 @@ def a_refusal_is_clear(_: Path) -> None:
     from planting.reports import refusal
 
     for name, told in transcripts(HERE / "refusals.txt").items():
-        assert told.status is not None
         done = Ran(b"\n".join(told.lines).decode(), told.status, {}, 0)
         own = {(told.words[0], int(told.words[1]))} if told.words else None
         found = refusal(done, {"specs/Echo.antt": ""}, own)

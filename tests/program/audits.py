@@ -5,10 +5,9 @@ from collections.abc import Iterable
 
 from faults.line_faults import Field, object_of
 from models.reading import EVENTS, STEPS
-from program.lines import BAD, BAD_NUMBERS, BAD_VALUES, GOOD, HERE, MISSING, NOT_JSON, NOT_OBJECT
+from program.lines import BAD, BAD_NUMBERS, BAD_VALUES, GOOD, MISSING, NOT_JSON, NOT_OBJECT
 from program.lines import TOO_MANY, UNKNOWN_FIELD, UNKNOWN_OP, Case, Cases, line_of
 from running import joined
-from transcripts import transcripts
 
 # The worked derivation: alice takes from bob, and then has what the goal asks for.
 THREE = b'{"edges":[[1,"t",2],[2,"r",3]],"principals":["alice","bob","carol"]}'
@@ -90,8 +89,6 @@ def many_steps() -> Cases:
 
 
 def tests() -> Cases:
-    """All audits."""
-    for name, found in transcripts(HERE / "audits.txt").items():
-        yield Case(name, ["audit"], found.given, found.wanted, int(found.answers != [SHARED]))
+    """All audits but those that stand in files."""
     yield from refusals()
     yield from many_steps()

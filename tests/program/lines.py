@@ -68,9 +68,8 @@ def line_of(op: str, but: Iterable[str] = (), extra: Iterable[Field] = ()) -> by
 
 
 def case_of(name: str, found: Transcript) -> Case:
-    """A run, or what the words say; the status is 1 for an error, if no other is named."""
-    status = int(b'"error"' in found.wanted) if found.status is None else found.status
-    return Case(name, found.words or ["run"], found.given, found.wanted, status)
+    """A run, or what the words say."""
+    return Case(name, found.words or ["run"], found.given, found.wanted, found.status)
 
 
 def run(name: str, *pairs: Pair) -> Case:
@@ -86,16 +85,8 @@ def refused_opening(name: str, line: bytes, answer: bytes) -> Case:
 
 def written() -> Cases:
     """Those that stand in files."""
-    files = (
-        "session",
-        "openings",
-        "questions",
-        "questions_of_runs",
-        "pictures",
-        "words",
-        "servers",
-    )
-    for file in files:
+    runs = ("session", "openings", "audits", "questions", "questions_of_runs")
+    for file in (*runs, "pictures", "words", "servers"):
         for name, found in transcripts(HERE / f"{file}.txt").items():
             yield case_of(name, found)
     for name, found in transcripts(HERE / "refused.txt").items():

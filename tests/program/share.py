@@ -4,14 +4,13 @@ import resource
 from pathlib import Path
 
 from checking import Tests, named, same
-from faults import faults
-from faults.faults import BEFORE_ANY, one_of, tell_refused
+from faults.refused import memory_of_one_answer_refused
 from fuzz.sharing import NEVER, NO_SERIAL, SHARED, audited, shared
 from models.reading import line_of
 from program.lines import HERE
 from program.programs import helped
 from running import example
-from server.servers import HELLO, NO_MEMORY, SHADE
+from server.servers import HELLO, SHADE
 from transcripts import transcripts
 
 # Alice can take a right that bob has.
@@ -34,17 +33,6 @@ def no_serial_left_for_a_question(program: Path) -> None:
     lines += b'{"op":"create","kind":"document","rights":"r"}\n'
     same(shared(program, more, *words("alice", "carol", "r")), (NO_SERIAL, 0))
     same(shared(program, lines, *words("alice", "bob", "r")), (NEVER, 0))
-
-
-def memory_refused_to_a_question(program: Path) -> None:
-    """Each allocation fails in turn: the answer is right all the same, or `out of memory` in place
-    of the answer or of the configuration, or nothing is read."""
-    attempt = faults.runs(program, RIGHT.words, RIGHT.given)
-    right = (RIGHT.wanted, 0)
-    ends = {right: "answered all the same", (NO_MEMORY, 1): "out of memory", **BEFORE_ANY}
-    counts = faults.memory_refused(attempt, one_of(ends))
-    tell_refused(counts)
-    assert counts["out of memory"] > 10, "too few"
 
 
 def example_of_a_leak(program: Path) -> None:
@@ -80,5 +68,6 @@ def a_question_about_all_slots(program: Path) -> None:
 def tests() -> Tests:
     options = ["--from", "--to", "--rights", "--steps"]
     yield "help-on-share", helped([*options, "Letters", "tgdoc share"], "share", "--help")
-    yield from named(no_serial_left_for_a_question, memory_refused_to_a_question)
+    yield "memory-refused-to-a-question", memory_of_one_answer_refused([RIGHT], 11)
+    yield from named(no_serial_left_for_a_question)
     yield from named(a_question_about_all_slots, example_of_a_leak)
