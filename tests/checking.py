@@ -10,9 +10,13 @@ import shutil
 from collections import Counter
 from collections.abc import Callable, Iterator, Sequence
 from pathlib import Path
+from typing import Concatenate, ParamSpec
 
 Test = Callable[[Path], bool | None]
 Tests = Iterator[tuple[str, Test]]
+# What a test takes besides the program.
+More = ParamSpec("More")
+Check = Callable[Concatenate[Path, More], bool | None]
 
 # How much of a value is shown.
 MOST_SHOWN = 2_000
@@ -61,6 +65,16 @@ def named(*tests: Test) -> Tests:
         yield test.__name__.replace("_", "-"), test
 
 
+def parametrised(check: Check[More]) -> Callable[More, Test]:
+    """Called with all that it takes besides the program, the function makes a test."""
+
+    @functools.wraps(check)
+    def made(*more: More.args, **named: More.kwargs) -> Test:
+        return lambda program: check(program, *more, **named)
+
+    return made
+
+
 def tell_counts(what: str, counts: Counter[str]) -> None:
     """Prints how often each kind was seen."""
     kinds = ", ".join(f"{number} {kind}" for kind, number in sorted(counts.items())) or "none"
@@ -76,15 +90,15 @@ def skipped(what: str) -> None:
 TOOLS = {"Chromium": "chromium", "Graphviz": "dot", "Valgrind": "valgrind"}
 
 
-def needing(*tools: str) -> Callable[[Test], Test]:
+def needing(*tools: str) -> Callable[[Check[More]], Check[More]]:
     """Has a test skipped where one of these tools is not installed."""
 
-    def needing_them(test: Test) -> Test:
+    def needing_them(test: Check[More]) -> Check[More]:
         @functools.wraps(test)
-        def tried(program: Path) -> bool | None:
+        def tried(program: Path, /, *more: More.args, **named: More.kwargs) -> bool | None:
             missing = [tool for tool in tools if not shutil.which(TOOLS[tool])]
             if not missing:
-                return test(program)
+                return test(program, *more, **named)
             skipped(" and no ".join(missing))
             return None
 

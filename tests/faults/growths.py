@@ -11,7 +11,7 @@ there is no allocation to fail.
 from collections import Counter
 from pathlib import Path
 
-from checking import Test, Tests, same
+from checking import Test, Tests, parametrised, same
 from faults import faults
 from faults.faults import Fault, Ran, tell_refused
 from running import ROOT, asked
@@ -48,13 +48,10 @@ def counted(program: Path, name: str) -> Counter[str]:
     return counts
 
 
-def growth_refused(name: str) -> Test:
+@parametrised
+def growth_refused(program: Path, name: str) -> None:
     """Whichever allocation fails, the call leaves what it should; one of them is its own."""
-
-    def test(program: Path) -> None:
-        assert counted(program, name)[AGAIN] > 0, "no allocation of the call itself"
-
-    return test
+    assert counted(program, name)[AGAIN] > 0, "no allocation of the call itself"
 
 
 def no_growth(name: str) -> Test:

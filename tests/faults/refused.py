@@ -11,7 +11,7 @@ from collections import Counter
 from collections.abc import Callable, Sequence
 from pathlib import Path
 
-from checking import Test, Tests, same
+from checking import Tests, parametrised, same
 from faults import faults, scripts
 from faults.faults import BEFORE_ANY, FAILS, INTERRUPTED, Fault, Ran, one_of, ran, tell_refused
 from running import asked, joined
@@ -91,41 +91,33 @@ def kind_of_run(references: References, script: Transcript, found: Ran) -> str |
     return references.kind(answers)
 
 
-def memory_refused(script: Transcript, to_the_end: bool = False) -> Test:
+@parametrised
+def memory_refused(program: Path, script: Transcript, to_the_end: bool = False) -> None:
     """Each allocation of a run fails, alone or with all after it."""
-
-    def test(program: Path) -> None:
-        references = references_of(program, script)
-        attempt = faults.runs(program, ["run"], script.given)
-        same(attempt(Fault())[:2], end_with(script.answers), "with memory")
-        counts = faults.memory_refused(
-            attempt, lambda found: kind_of_run(references, script, found), to_the_end
-        )
-        tell_refused(counts)
-        assert any("not sent" in kind for kind in counts), "no line was refused"
-
-    return test
+    references = references_of(program, script)
+    attempt = faults.runs(program, ["run"], script.given)
+    same(attempt(Fault())[:2], end_with(script.answers), "with memory")
+    counts = faults.memory_refused(
+        attempt, lambda found: kind_of_run(references, script, found), to_the_end
+    )
+    tell_refused(counts)
+    assert any("not sent" in kind for kind in counts), "no line was refused"
 
 
-def memory_of_one_answer_refused(cases: list[Transcript], least: int = 1) -> Test:
+@parametrised
+def memory_of_one_answer_refused(program: Path, cases: list[Transcript], least: int = 1) -> None:
     """Each allocation of runs with one answer fails: it is this, or `out of memory`, which it is so
     many times at least."""
-
-    def test(program: Path) -> None:
-        counts: Counter[str] = Counter()
-        for case in cases:
-            attempt, whole = faults.runs(program, case.words, case.given), (
-                case.wanted,
-                case.status,
-            )
-            same(attempt(Fault())[:2], whole, "with memory")
-            no_memory = {(joined(NO_MEMORY), 1): "out of memory"}
-            ends = {**BEFORE_ANY, **no_memory, whole: "answered all the same"}
-            counts += faults.memory_refused(attempt, one_of(ends))
-        tell_refused(counts)
-        assert counts["out of memory"] >= least, "too little was out of memory"
-
-    return test
+    counts: Counter[str] = Counter()
+    for case in cases:
+        attempt = faults.runs(program, case.words, case.given)
+        whole = case.wanted, case.status
+        same(attempt(Fault())[:2], whole, "with memory")
+        no_memory = {(joined(NO_MEMORY), 1): "out of memory"}
+        ends = {**BEFORE_ANY, **no_memory, whole: "answered all the same"}
+        counts += faults.memory_refused(attempt, one_of(ends))
+    tell_refused(counts)
+    assert counts["out of memory"] >= least, "too little was out of memory"
 
 
 def answers_to(script: Transcript, given: bytes) -> list[bytes]:
@@ -186,19 +178,19 @@ def check_calls(
 HARMLESS = (1, INTERRUPTED)
 
 
-def reads_gone_wrong(word: str, given: bytes, moves: int, wanted: Callable[[bytes], End]) -> Test:
+@parametrised
+def reads_gone_wrong(
+    program: Path, word: str, given: bytes, moves: int, wanted: Callable[[bytes], End]
+) -> None:
     """Each read of few bytes fails, or moves one byte, or is interrupted, or it and all after it
     find the end; `wanted` has the output and status from the bytes read."""
 
     def wanted_at(number: int) -> End:
         return wanted(given if moves in HARMLESS else given[: FEW * (number - 1)])
 
-    def test(program: Path) -> None:
-        attempt, fault = faults.runs(program, [word], given), Fault("read", moves=moves, most=FEW)
-        count = check_calls("reads", attempt, fault, wanted_at, moves == 0)
-        assert count > len(given) // FEW, "too few reads"
-
-    return test
+    attempt, fault = faults.runs(program, [word], given), Fault("read", moves=moves, most=FEW)
+    count = check_calls("reads", attempt, fault, wanted_at, moves == 0)
+    assert count > len(given) // FEW, "too few reads"
 
 
 def writes_of(given: bytes, answers: Answers) -> list[list[bytes]]:
@@ -211,82 +203,67 @@ def writes_of(given: bytes, answers: Answers) -> list[list[bytes]]:
     return [[piece[at : at + FEW] for at in starts] for piece, starts in places]
 
 
+@parametrised
 def writes_gone_wrong(
-    word: str, given: bytes, moves: int, answers: Answers, to_the_end: bool = False
-) -> Test:
+    program: Path, word: str, given: bytes, moves: int, answers: Answers, to_the_end: bool = False
+) -> None:
     """Each write fails, is interrupted, or takes none or one of its bytes. One byte and a signal
     change nothing; else the run ends with status 1, and what is written is a prefix.
 
     As the writer is dropped, it tries once more to write what it holds: if only one write goes
     wrong, the rest of that piece is there too.
     """
+    pieces = writes_of(given, answers)
+    rows = [(place, row) for place, piece in enumerate(pieces) for row in piece]
+    whole = joined(*answers(given)), int(answers(given) != [SHARED])
 
-    def test(program: Path) -> None:
-        pieces = writes_of(given, answers)
-        rows = [(place, row) for place, piece in enumerate(pieces) for row in piece]
-        whole = joined(*answers(given)), int(answers(given) != [SHARED])
+    def wanted(number: int) -> End:
+        if moves in HARMLESS:
+            return whole
+        if to_the_end:
+            return b"".join(row for _, row in rows[: number - 1]), 1
+        last = rows[number - 1][0]
+        return b"".join(row for place, row in rows if place <= last), 1
 
-        def wanted(number: int) -> End:
-            if moves in HARMLESS:
-                return whole
-            if to_the_end:
-                return b"".join(row for _, row in rows[: number - 1]), 1
-            last = rows[number - 1][0]
-            return b"".join(row for place, row in rows if place <= last), 1
-
-        attempt, fault = faults.runs(program, [word], given), Fault("write", moves=moves, most=FEW)
-        count = check_calls("writes", attempt, fault, wanted, to_the_end)
-        assert count == len(rows) or (moves in HARMLESS and count > len(rows)), "other writes"
-
-    return test
+    attempt, fault = faults.runs(program, [word], given), Fault("write", moves=moves, most=FEW)
+    count = check_calls("writes", attempt, fault, wanted, to_the_end)
+    assert count == len(rows) or (moves in HARMLESS and count > len(rows)), "other writes"
 
 
-def answers_in_one_write(word: str, given: bytes, answers: list[bytes]) -> Test:
+@parametrised
+def answers_in_one_write(program: Path, word: str, given: bytes, answers: list[bytes]) -> None:
     """Answers to lines that came together are written together: if the first write fails there is
     none, and no run makes a second write."""
-
-    def test(program: Path) -> None:
-        attempt = faults.runs(program, [word], given)
-        same(attempt(Fault()).output, joined(*answers))
-        same(check_calls("writes", attempt, Fault("write"), lambda _: (b"", 1), True), 1)
-
-    return test
+    attempt = faults.runs(program, [word], given)
+    same(attempt(Fault()).output, joined(*answers))
+    same(check_calls("writes", attempt, Fault("write"), lambda _: (b"", 1), True), 1)
 
 
-def cut_inputs(word: str, given: bytes, wanted: Callable[[bytes], End]) -> Test:
+@parametrised
+def cut_inputs(program: Path, word: str, given: bytes, wanted: Callable[[bytes], End]) -> None:
     """An input that ends after each of its bytes is answered line by line."""
-
-    def test(program: Path) -> None:
-        for count in range(len(given) + 1):
-            found = ran(program, [word], given[:count], Fault())
-            same(found[:2], wanted(given[:count]), f"cut after {count} bytes")
-        print(f"  inputs: {len(given) + 1}")
-
-    return test
+    for count in range(len(given) + 1):
+        found = ran(program, [word], given[:count], Fault())
+        same(found[:2], wanted(given[:count]), f"cut after {count} bytes")
+    print(f"  inputs: {len(given) + 1}")
 
 
-def closed(word: str, device: str) -> Test:
+@parametrised
+def closed(program: Path, word: str, device: str) -> None:
     """A run whose input or output is closed ends with status 1, and nothing is written."""
-
-    def test(program: Path) -> None:
-        words = ("-c", f'exec "$0" {word} {device}', program)
-        same(asked(Path("sh"), *words, given=FIRST_LINES[word]), (b"", 1))
-
-    return test
+    words = ("-c", f'exec "$0" {word} {device}', program)
+    same(asked(Path("sh"), *words, given=FIRST_LINES[word]), (b"", 1))
 
 
-def unread(word: str) -> Test:
+@parametrised
+def unread(program: Path, word: str) -> None:
     """A run whose output nobody reads any more ends with status 1, by no signal."""
-
-    def test(program: Path) -> None:
-        reading, writing = os.pipe()
-        os.close(reading)
-        try:
-            same(asked(program, word, given=FIRST_LINES[word], stdout=writing)[1], 1)
-        finally:
-            os.close(writing)
-
-    return test
+    reading, writing = os.pipe()
+    os.close(reading)
+    try:
+        same(asked(program, word, given=FIRST_LINES[word], stdout=writing)[1], 1)
+    finally:
+        os.close(writing)
 
 
 def tests_of_devices() -> Tests:

@@ -20,7 +20,7 @@ from collections.abc import Callable, Collection
 from pathlib import Path
 from typing import NamedTuple
 
-from checking import Test, Tests, same, tell_counts
+from checking import Test, Tests, parametrised, same, tell_counts
 from faults import faults, scripts
 from faults.faults import INTERRUPTED, WITHOUT_END, Fault
 from faults.refused import NO_MEMORY, NOT_JSON, References
@@ -222,29 +222,30 @@ def tried_each(program: Path, fault: Fault, to_the_end: bool, options: Options) 
     return [Tried(end(one), references.kind(one.answers), one) for _, one in found]
 
 
+@parametrised
 def gone_wrong(
-    fault: Fault, check: Check, to_the_end: bool = False, options: Options = ONE_ROUND
-) -> Test:
+    program: Path,
+    fault: Fault,
+    check: Check,
+    to_the_end: bool = False,
+    options: Options = ONE_ROUND,
+) -> None:
     """Calls of a kind go wrong, each in turn."""
-
-    def test(program: Path) -> None:
-        whole = serve(program, ALL_LINES, Fault(), options)
-        agreed = (whole.answers, end_under(options)(whole))
-        same(agreed, (ALL_ANSWERS, "agreed"), "without a fault")
-        tried = tried_each(program, fault, to_the_end, options)
-        results = [f"{one.end}, {one.told}" for one in tried]
-        tell_counts(f"calls of the kind {fault.kind} {fault.whose}".rstrip(), Counter(results))
-        try:
-            for one in tried:
-                assert one.told, f"a client is told what it may not be: {one.found}"
-                assert one.end, f"a server ends as it may not: {one.found}"
-            check(program, tried)
-        except (AssertionError, ValueError, IndexError):
-            for row, group in itertools.groupby(results):
-                print(f"    {len(list(group))} {row}")
-            raise
-
-    return test
+    whole = serve(program, ALL_LINES, Fault(), options)
+    agreed = (whole.answers, end_under(options)(whole))
+    same(agreed, (ALL_ANSWERS, "agreed"), "without a fault")
+    tried = tried_each(program, fault, to_the_end, options)
+    results = [f"{one.end}, {one.told}" for one in tried]
+    tell_counts(f"calls of the kind {fault.kind} {fault.whose}".rstrip(), Counter(results))
+    try:
+        for one in tried:
+            assert one.told, f"a client is told what it may not be: {one.found}"
+            assert one.end, f"a server ends as it may not: {one.found}"
+        check(program, tried)
+    except (AssertionError, ValueError, IndexError):
+        for row, group in itertools.groupby(results):
+            print(f"    {len(list(group))} {row}")
+        raise
 
 
 def up_to_ten_times(test: Test) -> Test:

@@ -12,7 +12,7 @@ from pathlib import Path
 from random import Random
 from typing import TypeVar
 
-from checking import Test, Tests, same
+from checking import Tests, parametrised, same
 from faults.line_faults import GOOD, fields_of, object_of, with_faults
 from fuzz.differential import printed_if_wrong, seeds
 from models.graph import verdict
@@ -137,15 +137,12 @@ def check_lines(program: Path, seed: str, count: int) -> None:
                 check_audit(program, source)
 
 
-def bad_lines(count: int) -> Test:
+@parametrised
+def bad_lines(program: Path, count: int) -> None:
     """This many bad lines, half of them of each seed."""
-
-    def test(program: Path) -> None:
-        for seed in seeds():
-            print(f"  seed {seed}")
-            check_lines(program, seed, count // len(seeds()))
-
-    return test
+    for seed in seeds():
+        print(f"  seed {seed}")
+        check_lines(program, seed, count // len(seeds()))
 
 
 def tests(count: int = LINES) -> Tests:

@@ -17,7 +17,7 @@ from collections.abc import Iterator
 from pathlib import Path
 from random import Random
 
-from checking import Test, Tests, same, tell_counts
+from checking import Tests, parametrised, same, tell_counts
 from models.collector import Course
 from models.graph import MOST_PRINCIPALS, NONE_LEFT, SEATS, Graph, verdict
 from models.reading import COMMANDS, LETTERS, Answer, Event, line_of, read_config, read_event
@@ -250,20 +250,17 @@ def printed_if_wrong(what: str, rows: list[bytes]) -> Iterator[None]:
         raise
 
 
-def random_runs(count: int) -> Test:
+@parametrised
+def random_runs(program: Path, count: int) -> None:
     """This many random runs of each seed, every answer checked."""
-
-    def test(program: Path) -> None:
-        seen: Counter[str] = Counter()
-        for name, source in sources(count, ""):
-            config = line_of(opening(source))
-            told = [config]
-            with printed_if_wrong(f"run {name}", told):
-                talked(program, source, config, told, seen)
-        tell_counts("answers", seen)
-        same(set(seen), {*KINDS, "steps"}, "answers of each kind")
-
-    return test
+    seen: Counter[str] = Counter()
+    for name, source in sources(count, ""):
+        config = line_of(opening(source))
+        told = [config]
+        with printed_if_wrong(f"run {name}", told):
+            talked(program, source, config, told, seen)
+    tell_counts("answers", seen)
+    same(set(seen), {*KINDS, "steps"}, "answers of each kind")
 
 
 def is_possible(graph: Graph, step: Event) -> bool:
@@ -297,25 +294,22 @@ def derivation(source: Random) -> list[Event]:
     return [config, {"from": start, "rights": rights, "to": end}, *steps]
 
 
-def derivations(count: int) -> Test:
+@parametrised
+def derivations(program: Path, count: int) -> None:
     """This many random derivations, each with the verdict of the graph that is never collected."""
-
-    def test(program: Path) -> None:
-        seen: Counter[str] = Counter()
-        for name, source in sources(count, "derivation "):
-            rows = [row_of(source, value) for value in derivation(source)]
-            steps = [read_step(row) for row in rows[2:]]
-            wanted = verdict(read_config(rows[0]), read_goal(rows[1]), steps)
-            seen[wanted["verdict"]] += 1
-            status = int(wanted["verdict"] != "shared")
-            with printed_if_wrong(name, rows):
-                found = asked(program, "audit", given=joined(*rows))
-                same(found, (line_of(wanted) + b"\n", status))
-        tell_counts("verdicts", seen)
-        verdicts = {"shared", "goal missing", "step denied", "step full", "actor not subject"}
-        same(set(seen), verdicts, "verdicts of each kind")
-
-    return test
+    seen: Counter[str] = Counter()
+    for name, source in sources(count, "derivation "):
+        rows = [row_of(source, value) for value in derivation(source)]
+        steps = [read_step(row) for row in rows[2:]]
+        wanted = verdict(read_config(rows[0]), read_goal(rows[1]), steps)
+        seen[wanted["verdict"]] += 1
+        status = int(wanted["verdict"] != "shared")
+        with printed_if_wrong(name, rows):
+            found = asked(program, "audit", given=joined(*rows))
+            same(found, (line_of(wanted) + b"\n", status))
+    tell_counts("verdicts", seen)
+    verdicts = {"shared", "goal missing", "step denied", "step full", "actor not subject"}
+    same(set(seen), verdicts, "verdicts of each kind")
 
 
 def tests(runs: int = RUNS, of_audits: int = DERIVATIONS) -> Tests:

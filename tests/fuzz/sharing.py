@@ -12,7 +12,7 @@ from dataclasses import dataclass
 from pathlib import Path
 from random import Random
 
-from checking import Test, Tests, same, tell_counts
+from checking import Tests, parametrised, same, tell_counts
 from fuzz.differential import event_of, opening, printed_if_wrong, row_of, some, sources
 from models.collector import Course
 from models.graph import NONE_LEFT, Graph, verdict
@@ -147,24 +147,21 @@ def check_lookup(program: Path, source: Random, run: Drawn) -> None:
         same((text, status), wanted, f"the answer to {words}")
 
 
-def random_graphs(count: int) -> Test:
+@parametrised
+def random_graphs(program: Path, count: int) -> None:
     """This many random graphs of each seed, every answer checked."""
-
-    def test(program: Path) -> None:
-        seen: Counter[str] = Counter()
-        for name, source in sources(count, "sharing/"):
-            run = drawn(source)
-            if run is None:
-                continue
-            with printed_if_wrong(name, run.rows):
-                for _ in range(GOALS):
-                    seen[check_question(program, source, run)] += 1
-                    check_lookup(program, source, run)
-        tell_counts("questions", seen)
-        kinds = {"never", "shared", "shared by new vertices"}
-        same(kinds - set(seen), set(), "no answers of these kinds")
-
-    return test
+    seen: Counter[str] = Counter()
+    for name, source in sources(count, "sharing/"):
+        run = drawn(source)
+        if run is None:
+            continue
+        with printed_if_wrong(name, run.rows):
+            for _ in range(GOALS):
+                seen[check_question(program, source, run)] += 1
+                check_lookup(program, source, run)
+    tell_counts("questions", seen)
+    kinds = {"never", "shared", "shared by new vertices"}
+    same(kinds - set(seen), set(), "no answers of these kinds")
 
 
 def run_of_chain(links: int) -> bytes:

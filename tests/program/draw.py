@@ -7,7 +7,7 @@ import subprocess
 from pathlib import Path
 from random import Random
 
-from checking import Test, Tests, named, needing, same
+from checking import Tests, named, needing, parametrised, same
 from faults import faults
 from faults.faults import BEFORE_ANY, one_of, tell_refused
 from film.pictures import picture as read
@@ -32,15 +32,12 @@ def drawn(program: Path, given: bytes, *words: str) -> tuple[bytes, int]:
     return asked(program, "draw", *words, given=given)
 
 
-def last_of(found: Transcript) -> Test:
+@parametrised
+def last_of(program: Path, found: Transcript) -> None:
     """Lines after whose last one `draw --each` writes this picture."""
-
-    def test(program: Path) -> None:
-        written, status = drawn(program, found.given, "--each")
-        rows = written.splitlines(keepends=True)
-        same((len(rows), rows[-1], status), (len(found.lines) - 1, found.wanted, 0))
-
-    return test
+    written, status = drawn(program, found.given, "--each")
+    rows = written.splitlines(keepends=True)
+    same((len(rows), rows[-1], status), (len(found.lines) - 1, found.wanted, 0))
 
 
 def expected(source: Random) -> tuple[Course, list[bytes], list[bytes], int]:
@@ -77,7 +74,8 @@ def random_pictures(program: Path) -> None:
                 check_parsed(course, shot)
 
 
-def memory_refused(which: str) -> Test:
+@parametrised
+def memory_refused(program: Path, which: str) -> None:
     """Without memory for a picture its line is `out of memory`, and the picture after the next line
     is there. What comes of alice's line without memory is in its picture, and in the next one. Each
     allocation fails in turn: the output is one of these, and that of each kind that has `picture`
@@ -86,14 +84,10 @@ def memory_refused(which: str) -> Test:
     run = next(iter(ends.values()))
     known = {(found.wanted, 1): name for name, found in ends.items()}
     known |= {**BEFORE_ANY, (NO_MEMORY, 1): "configuration not read"}
-
-    def test(program: Path) -> None:
-        attempt = faults.runs(program, run.words, run.given)
-        counts = faults.memory_refused(attempt, one_of(known))
-        tell_refused(counts)
-        same([name for name in ends if "picture" in name and not counts[name]], [], "never seen")
-
-    return test
+    attempt = faults.runs(program, run.words, run.given)
+    counts = faults.memory_refused(attempt, one_of(known))
+    tell_refused(counts)
+    same([name for name in ends if "picture" in name and not counts[name]], [], "never seen")
 
 
 @needing("Valgrind")

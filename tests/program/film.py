@@ -14,7 +14,7 @@ from html import unescape
 from pathlib import Path
 from typing import Any
 
-from checking import Test, Tests, named, needing, same
+from checking import Tests, named, needing, parametrised, same
 from film.frames import Frame, frames_of, told
 from running import ROOT, ran
 
@@ -76,27 +76,24 @@ def described(text: str) -> list[str]:
     return [unescape(words) for words in re.findall("<desc>(.*?)</desc>", text)]
 
 
-def kept(name: str) -> Test:
+@parametrised
+@needing("Graphviz")
+def kept(program: Path, name: str) -> None:
     """The page that is kept shows what the program draws now, and so does the one that is made of
     it."""
-
-    @needing("Graphviz")
-    def test(program: Path) -> None:
-        captions = FILM / f"{name}.captions"
-        lines, made = page_of(program, story(name), "--captions", str(captions))
-        page, single = ((KEPT / f"{name}.{kind}").read_text() for kind in ("html", "svg"))
-        frames = frames_of(lines)
-        wanted = [told(frame) for frame in frames]
-        same(described(made), wanted, "the page that is made")
-        same(described(page), wanted, "the page that is kept")
-        (shown,) = described(single)
-        assert shown in wanted, shown
-        same((len(frames), {it.number for it in frames if it.missing}), STORIES[name])
-        texts = captions.read_text().splitlines()
-        same([captions_of(made), captions_of(page)], [texts, texts], "captions")
-        same(FACTS.findall(page), FACTS.findall(made))
-
-    return test
+    captions = FILM / f"{name}.captions"
+    lines, made = page_of(program, story(name), "--captions", str(captions))
+    page, single = ((KEPT / f"{name}.{kind}").read_text() for kind in ("html", "svg"))
+    frames = frames_of(lines)
+    wanted = [told(frame) for frame in frames]
+    same(described(made), wanted, "the page that is made")
+    same(described(page), wanted, "the page that is kept")
+    (shown,) = described(single)
+    assert shown in wanted, shown
+    same((len(frames), {it.number for it in frames if it.missing}), STORIES[name])
+    texts = captions.read_text().splitlines()
+    same([captions_of(made), captions_of(page)], [texts, texts], "captions")
+    same(FACTS.findall(page), FACTS.findall(made))
 
 
 def seen_in_a_browser(page: str, probe: str, *words: str) -> str:
@@ -115,16 +112,13 @@ def seen_in_a_browser(page: str, probe: str, *words: str) -> str:
     return report
 
 
-def in_a_browser(name: str) -> Test:
+@parametrised
+@needing("Chromium")
+def in_a_browser(_: Path, name: str) -> None:
     """Each frame is drawn, and the keys and the buttons work."""
-
-    @needing("Chromium")
-    def test(_: Path) -> None:
-        count = STORIES[name][0]
-        report = seen_in_a_browser((KEPT / f"{name}.html").read_text(), PROBE)
-        same(report, PROBED.format(count, count - 1))
-
-    return test
+    count = STORIES[name][0]
+    report = seen_in_a_browser((KEPT / f"{name}.html").read_text(), PROBE)
+    same(report, PROBED.format(count, count - 1))
 
 
 @needing("Graphviz")
@@ -268,19 +262,16 @@ def moved(known: dict[Any, Any], found: dict[Any, Any]) -> list[Any]:
     return [key for key, place in found.items() if known.setdefault(key, place) != place]
 
 
-def wide(lines: Callable[[], Lines], count: int, *words: str, **how: Any) -> Test:
+@parametrised
+@needing("Graphviz")
+def wide(program: Path, lines: Callable[[], Lines], count: int, *words: str, **how: Any) -> None:
     """A film of so many vertices is no wider than a page, and shows all of them."""
-
-    @needing("Graphviz")
-    def test(program: Path) -> None:
-        pictures, page = film_of(program, lines(), *words)
-        frames = frames_of(pictures, **how)
-        found = set[int]().union(*(frame.picture.vertices for frame in frames))
-        print(f"  {len(found)} vertices, {len(frames)} frames")
-        same(list(faults_of_film(frames, page)), [])
-        same(len(found), count)
-
-    return test
+    pictures, page = film_of(program, lines(), *words)
+    frames = frames_of(pictures, **how)
+    found = set[int]().union(*(frame.picture.vertices for frame in frames))
+    print(f"  {len(found)} vertices, {len(frames)} frames")
+    same(list(faults_of_film(frames, page)), [])
+    same(len(found), count)
 
 
 @needing("Graphviz")

@@ -16,7 +16,7 @@ from concurrent.futures import ThreadPoolExecutor
 from pathlib import Path
 from typing import Any
 
-from checking import Test, Tests, named, needing, same
+from checking import Tests, named, needing, parametrised, same
 from models.graph import SEATS
 from models.reading import LONGEST_LINE, LONGEST_TEXT
 from running import SECONDS, asked, instructions, joined
@@ -231,16 +231,13 @@ def lines_of_64_agents() -> Rows:
     yield LOOK % (1, 63), SEEN % (b'[%d,"tg"]' % (2 * SEATS))
 
 
-def answered(lines: Callable[[], Rows]) -> Test:
+@parametrised
+def answered(program: Path, lines: Callable[[], Rows]) -> None:
     """A run whose lines have their answers; no answer is an error."""
-
-    def test(program: Path) -> None:
-        rows = list(lines())
-        written, status = asked(program, "run", given=joined(*[line for line, _ in rows]))
-        same(written, joined(*[answer for _, answer in rows if answer]))
-        same(status, 0)
-
-    return test
+    rows = list(lines())
+    written, status = asked(program, "run", given=joined(*[line for line, _ in rows]))
+    same(written, joined(*[answer for _, answer in rows if answer]))
+    same(status, 0)
 
 
 # Alice makes document 2.

@@ -18,7 +18,7 @@ from pathlib import Path
 from typing import Any
 
 import builds
-from checking import Test, Tests, named, needing, same
+from checking import Tests, named, needing, parametrised, same
 from playground.service import MOST_BYTES, MOST_LINES, Service, opened
 from running import ROOT, SECONDS, asked, hear, joined, started
 
@@ -167,36 +167,33 @@ def playground_asks_at_once(program: Path) -> None:
             same(told(port, "/who", WHO), TOLD_WHO)
 
 
-def in_a_browser(size: str) -> Test:
+@parametrised
+@needing("Chromium")
+def in_a_browser(program: Path, size: str) -> None:
     """All that the page offers works in a window of this size, and the console stays empty."""
+    report: list[str] = []
+    is_told = threading.Event()
 
-    @needing("Chromium")
-    def test(program: Path) -> None:
-        report: list[str] = []
-        is_told = threading.Event()
+    def tell(asked: dict[str, Any]) -> dict[str, Any]:
+        report.append("; ".join(asked["seen"]))
+        is_told.set()
+        return {}
 
-        def tell(asked: dict[str, Any]) -> dict[str, Any]:
-            report.append("; ".join(asked["seen"]))
-            is_told.set()
-            return {}
-
-        reporting = {"answers": {**Service.answers, "/seen": tell}}
-        probed = type("Reporting", (Probed,), reporting)
-        with contextlib.ExitStack() as stack:
-            folder = stack.enter_context(tempfile.TemporaryDirectory())
-            said = stack.enter_context(open(f"{folder}/said", "w+b"))
-            port = stack.enter_context(served(program, probed))
-            words = ["--headless", "--no-sandbox", "--disable-gpu", "--enable-logging=stderr"]
-            words += [f"--user-data-dir={folder}/data", f"--window-size={size}"]
-            with started(Path("chromium"), *words, f"http://127.0.0.1:{port}/", stderr=said):
-                is_told.wait(SECONDS)
-            said.seek(0)
-            rows = said.read().decode(errors="replace").splitlines()
-        print(f"  {report or 'no report'}")
-        same([row for row in rows if ":CONSOLE" in row], [], "the console")
-        same(report, [SEEN.replace("\n", "; ")])
-
-    return test
+    reporting = {"answers": {**Service.answers, "/seen": tell}}
+    probed = type("Reporting", (Probed,), reporting)
+    with contextlib.ExitStack() as stack:
+        folder = stack.enter_context(tempfile.TemporaryDirectory())
+        said = stack.enter_context(open(f"{folder}/said", "w+b"))
+        port = stack.enter_context(served(program, probed))
+        words = ["--headless", "--no-sandbox", "--disable-gpu", "--enable-logging=stderr"]
+        words += [f"--user-data-dir={folder}/data", f"--window-size={size}"]
+        with started(Path("chromium"), *words, f"http://127.0.0.1:{port}/", stderr=said):
+            is_told.wait(SECONDS)
+        said.seek(0)
+        rows = said.read().decode(errors="replace").splitlines()
+    print(f"  {report or 'no report'}")
+    same([row for row in rows if ":CONSOLE" in row], [], "the console")
+    same(report, [SEEN.replace("\n", "; ")])
 
 
 def playground_starts(program: Path) -> None:

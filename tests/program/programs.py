@@ -7,7 +7,7 @@ import shlex
 import subprocess
 from pathlib import Path
 
-from checking import Test, Tests, named, same
+from checking import Test, Tests, named, parametrised, same
 from running import ROOT, Word, asked, example, hear, ran, rest_of, started, tell, unreadable
 from server.servers import BYE, HELLO, PARTED, WELCOME
 
@@ -30,28 +30,24 @@ def answers_come_at_once(program: Path) -> None:
         same(rest_of(process), (b"", 1))
 
 
-def answered_together(lines: bytes, answers: bytes, status: int, room: int = -1) -> Test:
+@parametrised
+def answered_together(
+    program: Path, lines: bytes, answers: bytes, status: int, room: int = -1
+) -> None:
     """Lines that are sent together, over pipes with this many bytes of room, are all answered
     before the program waits for more."""
-
-    def test(program: Path) -> None:
-        with started(program, "run", pipesize=room) as process:
-            tell(process, CONFIG + lines)
-            found = b"".join(hear(process) for _ in range(lines.count(b"\n")))
-            same((found, rest_of(process)), (answers, (b"", status)))
-
-    return test
+    with started(program, "run", pipesize=room) as process:
+        tell(process, CONFIG + lines)
+        found = b"".join(hear(process) for _ in range(lines.count(b"\n")))
+        same((found, rest_of(process)), (answers, (b"", status)))
 
 
-def input_that_cannot_be_read(word: str) -> Test:
+@parametrised
+def input_that_cannot_be_read(program: Path, word: str) -> None:
     """A read that fails ends the run with status 1 and no answer."""
-
-    def test(program: Path) -> None:
-        with unreadable() as folder:
-            found = ran(program, word, given=None, stdin=folder)
-        same((found.stdout, found.returncode), (b"", 1))
-
-    return test
+    with unreadable() as folder:
+        found = ran(program, word, given=None, stdin=folder)
+    same((found.stdout, found.returncode), (b"", 1))
 
 
 def no_verdict_before_the_end(program: Path) -> None:
@@ -71,36 +67,27 @@ def refused_line_of_an_audit_is_answered_at_once(program: Path) -> None:
         same(process.wait(), 1)
 
 
-def lost(word: str, given: bytes, status: int) -> Test:
+@parametrised
+def lost(program: Path, word: str, given: bytes, status: int) -> None:
     """The status of a run whose output cannot be written: 0 if there is none."""
-
-    def test(program: Path) -> None:
-        with open("/dev/full", "wb") as full:
-            same(ran(program, word, given=given, stdout=full).returncode, status)
-
-    return test
+    with open("/dev/full", "wb") as full:
+        same(ran(program, word, given=given, stdout=full).returncode, status)
 
 
-def refused(*words: Word) -> Test:
+@parametrised
+def refused(program: Path, *words: Word) -> None:
     """A command line that is refused: status 2, a text on standard error, no output."""
-
-    def test(program: Path) -> None:
-        found = ran(program, *words, given=CONFIG + HELLO)
-        same((found.returncode, found.stdout), (2, b""))
-        assert found.stderr, "nothing on standard error"
-
-    return test
+    found = ran(program, *words, given=CONFIG + HELLO)
+    same((found.returncode, found.stdout), (2, b""))
+    assert found.stderr, "nothing on standard error"
 
 
-def helped(named: list[str], *words: str) -> Test:
+@parametrised
+def helped(program: Path, named: list[str], *words: str) -> None:
     """Help on standard output, with status 0; it names these words."""
-
-    def test(program: Path) -> None:
-        found = ran(program, *words)
-        same((found.returncode, found.stderr), (0, b""))
-        same([word for word in named if word not in found.stdout.decode()], [], "not named")
-
-    return test
+    found = ran(program, *words)
+    same((found.returncode, found.stderr), (0, b""))
+    same([word for word in named if word not in found.stdout.decode()], [], "not named")
 
 
 def example_of(program: Path, named: list[str], *words: str) -> list[str]:
@@ -113,16 +100,13 @@ def example_of(program: Path, named: list[str], *words: str) -> list[str]:
     return shlex.split(line)
 
 
-def help_with_a_file(begins: bytes, named: list[str], *help_words: str) -> Test:
+@parametrised
+def help_with_a_file(program: Path, begins: bytes, named: list[str], *help_words: str) -> None:
     """Help on standard output, status 0; its example answers the lines of a file."""
-
-    def test(program: Path) -> None:
-        tgdoc, *words, sign, name = example_of(program, named, *help_words)
-        written, status = asked(program, *words, given=(ROOT / name).read_bytes())
-        same((tgdoc, sign, status), ("tgdoc", "<", 0))
-        assert written.startswith(begins), written
-
-    return test
+    tgdoc, *words, sign, name = example_of(program, named, *help_words)
+    written, status = asked(program, *words, given=(ROOT / name).read_bytes())
+    same((tgdoc, sign, status), ("tgdoc", "<", 0))
+    assert written.startswith(begins), written
 
 
 def help_on_run(program: Path) -> None:
@@ -172,15 +156,12 @@ def demo_of_an_audit(program: Path) -> None:
     same(demo_of(program, str(given)), given.read_text() + SHARED.decode())
 
 
-def versioned(*words: str) -> Test:
+@parametrised
+def versioned(program: Path, *words: str) -> None:
     """A command line that asks for the version: the name and the version, status 0."""
-
-    def test(program: Path) -> None:
-        found = ran(program, *words)
-        version = (b"tgdoc 0.1.0\n", b"", 0)
-        same((found.stdout, found.stderr, found.returncode), version)
-
-    return test
+    found = ran(program, *words)
+    version = (b"tgdoc 0.1.0\n", b"", 0)
+    same((found.stdout, found.stderr, found.returncode), version)
 
 
 def library_page(_: Path) -> None:

@@ -12,7 +12,7 @@ import threading
 import time
 from pathlib import Path
 
-from checking import Test, Tests, named, same
+from checking import Tests, named, parametrised, same
 from running import ROOT, SECONDS, Process, hear, ran, rest_of, started, tell
 from server.servers import AGREED, ANY_PORT, Server, running
 
@@ -35,17 +35,14 @@ def session(program: Path, typed: list[str], *words: str) -> tuple[str, int]:
     return found.stdout.decode(), found.returncode
 
 
-def printed(name: str, *words: str, status: int = 0) -> Test:
+@parametrised
+def printed(program: Path, name: str, *words: str, status: int = 0) -> None:
     """A session that prints exactly what its file has; what is typed stands behind its prompts."""
-
-    def test(program: Path) -> None:
-        wanted = (Path(__file__).parent / "sessions" / f"{name}.txt").read_text()
-        typed = [match[1] for row in wanted.splitlines() if (match := ANY_PROMPT.match(row))]
-        text, ended = session(program, typed, *words)
-        # without the last prompt, at which the input ends
-        same((re.sub(r"[^\n]*> \n\Z", "", text), ended), (wanted, status))
-
-    return test
+    wanted = (Path(__file__).parent / "sessions" / f"{name}.txt").read_text()
+    typed = [match[1] for row in wanted.splitlines() if (match := ANY_PROMPT.match(row))]
+    text, ended = session(program, typed, *words)
+    # without the last prompt, at which the input ends
+    same((re.sub(r"[^\n]*> \n\Z", "", text), ended), (wanted, status))
 
 
 def shell_keeps_a_run(program: Path) -> None:

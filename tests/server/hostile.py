@@ -17,7 +17,7 @@ from pathlib import Path
 from random import Random
 from typing import Any
 
-from checking import Test, Tests, same
+from checking import Tests, parametrised, same
 from faults.line_faults import fields_of, with_faults
 from fuzz.differential import seeds
 from models import owners
@@ -167,33 +167,30 @@ def behaves(siege: Siege, seed: str, number: int) -> tuple[int, float]:
     return count, longest
 
 
-def withstood(seconds: float) -> Test:
+@parametrised
+def withstood(program: Path, seconds: float) -> None:
     """A server that is besieged for this long."""
-
-    def test(program: Path) -> None:
-        seed = seeds()[-1]
-        print(f"  seed {seed}")
-        how: dict[str, Any] = {"config": CONFIG, "seconds": seconds + 120, "ends": None}
-        besieged = served(program, WORKERS, CONNECTIONS, **how)
-        with besieged as server, ThreadPoolExecutor(WORKERS + 1) as pool:
-            siege = Siege(server, seconds)
-            looked = pool.submit(siege.look)
-            behaved = [pool.submit(behaves, siege, seed, number) for number in range(BEHAVED)]
-            others = range(BEHAVED, WORKERS)
-            rough = [pool.submit(besieges, siege, seed, number) for number in others]
-            commands, waited = zip(*[one.result() for one in behaved])
-            hostile = sum(one.result() for one in rough)
-            looked.result()
-            siege.use_up()
-            same(server.end(), AGREED)
-        print(f"  {sum(commands)} commands of {BEHAVED} clients that behave")
-        print(f"  the longest wait {max(waited):.2f} s; {hostile} hostile connections")
-        print(f"  {siege.lines} lines, {siege.files} open files, {siege.memory >> 20} MB")
-        assert siege.files <= WORKERS + MORE_FILES, "too many files"
-        assert siege.memory <= MOST_BYTES + BYTES_A_LINE * siege.lines, "too much memory"
-        assert min(commands) > 0 and hostile > 0, "too few connections or commands"
-
-    return test
+    seed = seeds()[-1]
+    print(f"  seed {seed}")
+    how: dict[str, Any] = {"config": CONFIG, "seconds": seconds + 120, "ends": None}
+    besieged = served(program, WORKERS, CONNECTIONS, **how)
+    with besieged as server, ThreadPoolExecutor(WORKERS + 1) as pool:
+        siege = Siege(server, seconds)
+        looked = pool.submit(siege.look)
+        behaved = [pool.submit(behaves, siege, seed, number) for number in range(BEHAVED)]
+        others = range(BEHAVED, WORKERS)
+        rough = [pool.submit(besieges, siege, seed, number) for number in others]
+        commands, waited = zip(*[one.result() for one in behaved])
+        hostile = sum(one.result() for one in rough)
+        looked.result()
+        siege.use_up()
+        same(server.end(), AGREED)
+    print(f"  {sum(commands)} commands of {BEHAVED} clients that behave")
+    print(f"  the longest wait {max(waited):.2f} s; {hostile} hostile connections")
+    print(f"  {siege.lines} lines, {siege.files} open files, {siege.memory >> 20} MB")
+    assert siege.files <= WORKERS + MORE_FILES, "too many files"
+    assert siege.memory <= MOST_BYTES + BYTES_A_LINE * siege.lines, "too much memory"
+    assert min(commands) > 0 and hostile > 0, "too few connections or commands"
 
 
 def tests(seconds: float = SECONDS) -> Tests:

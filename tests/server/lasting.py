@@ -12,7 +12,7 @@ import time
 from collections.abc import Callable
 from pathlib import Path
 
-from checking import Test, Tests
+from checking import Tests, parametrised
 from models.reading import line_of
 from server.servers import served
 from tgdoc_client import Client, Full
@@ -65,20 +65,19 @@ def makes_one_at_a_time(client: Client, seconds: float) -> tuple[int, float]:
     return made, longest
 
 
-def used(use: Callable[[Client, float], tuple[int, float]], seconds: float, least: int) -> Test:
+@parametrised
+def used(
+    program: Path, use: Callable[[Client, float], tuple[int, float]], seconds: float, least: int
+) -> None:
     """A server that is used in this way for so long makes more documents than these."""
-
-    def test(program: Path) -> None:
-        with served(program, 1, 1, config=CONFIG, seconds=seconds + 60) as server:
-            with server.client() as alice:
-                alice.hello("alice")
-                made, longest = use(alice, seconds)
-                alice.bye()
-        print(f"  {made} documents in {SLOTS} slots, none for {longest:.2f} s at most")
-        assert made > least, "too few"
-        assert longest < MOST_FULL, "full for too long"
-
-    return test
+    with served(program, 1, 1, config=CONFIG, seconds=seconds + 60) as server:
+        with server.client() as alice:
+            alice.hello("alice")
+            made, longest = use(alice, seconds)
+            alice.bye()
+    print(f"  {made} documents in {SLOTS} slots, none for {longest:.2f} s at most")
+    assert made > least, "too few"
+    assert longest < MOST_FULL, "full for too long"
 
 
 def tests(seconds: float = SECONDS) -> Tests:

@@ -8,7 +8,7 @@ import time
 from pathlib import Path
 from typing import Any
 
-from checking import Test, Tests, named, same
+from checking import Test, Tests, named, parametrised, same
 from faults import faults
 from faults.faults import Fault
 from program.programs import helped, refused
@@ -20,22 +20,21 @@ LISTEN = b'{"error":"listen"}\n'
 ONE = ("--connections", "1")
 
 
-def accepted(*words: str, config: bytes = CONFIG, is_whole: bool = False, host: str = "") -> Test:
+@parametrised
+def accepted(
+    program: Path, *words: str, config: bytes = CONFIG, is_whole: bool = False, host: str = ""
+) -> None:
     """A command line that is taken: one client is served, perhaps after the end of the input; the
     address that is written has a real port, and this host if one is given."""
-
-    def test(program: Path) -> None:
-        with running(program, *words, config=config) as process:
-            if is_whole and process.stdin:
-                process.stdin.close()
-            server = Server(process)
-            server.greet()
-            same(server.end(), AGREED)
-        found, port = server.address
-        same(found, host or found)
-        assert 0 < port < 65536, f"port {port}"
-
-    return test
+    with running(program, *words, config=config) as process:
+        if is_whole and process.stdin:
+            process.stdin.close()
+        server = Server(process)
+        server.greet()
+        same(server.end(), AGREED)
+    found, port = server.address
+    same(found, host or found)
+    assert 0 < port < 65536, f"port {port}"
 
 
 def has_loopback_of_ipv6() -> bool:

@@ -16,7 +16,7 @@ from collections.abc import Iterator
 from pathlib import Path
 from unittest.mock import patch
 
-from checking import Test, Tests, same
+from checking import Tests, parametrised, same
 from models.graph import Graph
 from models.reading import Event, line_of, read_config
 from running import hear
@@ -141,34 +141,31 @@ def one_round(server: Server, graph: Graph, before: bytes | None) -> bytes:
     return talk(server, graph, reader(graph))
 
 
-def lasted(rounds: int) -> Test:
+@parametrised
+def lasted(program: Path, rounds: int) -> None:
     """A server that serves so many rounds."""
-
-    def test(program: Path) -> None:
-        graph, before, uses = Graph(read_config(CONFIG[:-1])), None, []
-        # A round more comes before the others, and a talk more keeps the server alive behind them.
-        count = (rounds + 1) * CONNECTIONS + 1
-        words = ("--round", str(CONNECTIONS))
-        in_rounds = served(program, 2, count, *words, config=CONFIG, seconds=3_600, ends=None)
-        with patch.dict(os.environ, MALLOC_ARENA_MAX="1"), in_rounds as server:
-            for number in range(rounds + 1):
-                if number:
-                    before = one_round(server, graph, before)
-                else:
-                    first_round(server, graph)
-                graph = graph.rebased()
-                same(json.loads(hear(server.process))["round"], number + 1)
-                if number in (0, rounds // 2, rounds):
-                    uses.append(used(server))
-            same(talk(server, graph, reader(graph)), before)
-            same(server.end(), AGREED)
-        (_, (early, files), (late, files_left)) = uses
-        print(f"  {len(graph.kinds)} vertices at the end")
-        print(f"  {early >> 10} and {late >> 10} KB at most, {files} and {files_left} open files")
-        assert late <= MORE * early, "more and more memory"
-        same(files_left, files, "open files")
-
-    return test
+    graph, before, uses = Graph(read_config(CONFIG[:-1])), None, []
+    # A round more comes before the others, and a talk more keeps the server alive behind them.
+    count = (rounds + 1) * CONNECTIONS + 1
+    words = ("--round", str(CONNECTIONS))
+    in_rounds = served(program, 2, count, *words, config=CONFIG, seconds=3_600, ends=None)
+    with patch.dict(os.environ, MALLOC_ARENA_MAX="1"), in_rounds as server:
+        for number in range(rounds + 1):
+            if number:
+                before = one_round(server, graph, before)
+            else:
+                first_round(server, graph)
+            graph = graph.rebased()
+            same(json.loads(hear(server.process))["round"], number + 1)
+            if number in (0, rounds // 2, rounds):
+                uses.append(used(server))
+        same(talk(server, graph, reader(graph)), before)
+        same(server.end(), AGREED)
+    (_, (early, files), (late, files_left)) = uses
+    print(f"  {len(graph.kinds)} vertices at the end")
+    print(f"  {early >> 10} and {late >> 10} KB at most, {files} and {files_left} open files")
+    assert late <= MORE * early, "more and more memory"
+    same(files_left, files, "open files")
 
 
 def tests(rounds: int = ROUNDS) -> Tests:

@@ -11,7 +11,7 @@ from concurrent.futures import ThreadPoolExecutor
 from pathlib import Path
 from random import Random
 
-from checking import Test, Tests, named, same
+from checking import Tests, named, parametrised, same
 from fuzz.differential import NAMES, SESSION_OPS, command, row_of, seeds, some
 from models.collector import Course
 from models.graph import Graph
@@ -27,16 +27,13 @@ TALKS = transcripts(Path(__file__).with_suffix(".txt"))
 NARROW = b'{"cells":4,"principals":["alice","bob"],"slots":3}\n'
 
 
-def talks(config: bytes, each: int, *names: str, dropped: list[int]) -> Test:
+@parametrised
+def talks(program: Path, config: bytes, each: int, *names: str, dropped: list[int]) -> None:
     """One talk after the other, so many in a round."""
-
-    def test(program: Path) -> None:
-        words, ends = ("--round", str(each)), in_rounds(*dropped)
-        with served(program, 1, len(names), *words, config=config, ends=ends) as server:
-            for name in names:
-                same(server.exchange(TALKS[name].given), TALKS[name].wanted, name)
-
-    return test
+    words, ends = ("--round", str(each)), in_rounds(*dropped)
+    with served(program, 1, len(names), *words, config=config, ends=ends) as server:
+        for name in names:
+            same(server.exchange(TALKS[name].given), TALKS[name].wanted, name)
 
 
 def one_waits_for_the_next_round(program: Path) -> None:

@@ -19,7 +19,7 @@ from pathlib import Path
 from random import Random
 from typing import Any
 
-from checking import Test, Tests, named, same
+from checking import Tests, named, parametrised, same
 from models import owners
 from running import SECONDS, example
 from server import attended, bounds, listening, pacing, piling, rounds, talks, waiting
@@ -53,23 +53,20 @@ def more_clients_than_workers(program: Path) -> None:
     same(made, list(range(3, 15)))
 
 
-def waits_for_a_seat(workers: int, *words: str) -> Test:
+@parametrised
+def waits_for_a_seat(program: Path, workers: int, *words: str) -> None:
     """This many clients are served at once; one more is answered once the first has left."""
-
-    def test(program: Path) -> None:
-        connections = ("--connections", str(workers + 1))
-        with running(program, *ANY_PORT, *connections, *words) as process:
-            server = Server(process)
-            with contextlib.ExitStack() as stack:
-                seated = [stack.enter_context(server.seated()) for _ in range(workers)]
-                late = stack.enter_context(server.connection())
-                late.sendall(HELLO)
-                assert is_silent(late), "answered without a worker"
-                seated[0].sendall(BYE)
-                same(read_line(late), WELCOME)
-            same(server.end(), AGREED)
-
-    return test
+    connections = ("--connections", str(workers + 1))
+    with running(program, *ANY_PORT, *connections, *words) as process:
+        server = Server(process)
+        with contextlib.ExitStack() as stack:
+            seated = [stack.enter_context(server.seated()) for _ in range(workers)]
+            late = stack.enter_context(server.connection())
+            late.sendall(HELLO)
+            assert is_silent(late), "answered without a worker"
+            seated[0].sendall(BYE)
+            same(read_line(late), WELCOME)
+        same(server.end(), AGREED)
 
 
 def answer_of(client: Client, name: str, *arguments: Any, may_be_full: bool) -> Any:
@@ -233,26 +230,23 @@ def behave(bob: Client, document: int, is_over: threading.Event) -> float:
     return longest
 
 
-def beside(rough: Callable[[Server], None], connections: int) -> Test:
+@parametrised
+def beside(program: Path, rough: Callable[[Server], None], connections: int) -> None:
     """A client that behaves is answered soon, whatever another one does on this many connections;
     the other's seat is free afterwards."""
-
-    def test(program: Path) -> None:
-        is_over = threading.Event()
-        served_here = served(program, 2, connections + 2, config=ROOMY)
-        with served_here as server, server.client() as bob, ThreadPoolExecutor() as pool:
-            bob.hello("bob")
-            behaved = pool.submit(behave, bob, bob.create("document", "rw"), is_over)
-            try:
-                rough(server)
-                server.greet()
-            finally:
-                is_over.set()
-            longest = behaved.result(SECONDS)
-        print(f"  the longest wait was {longest:.3f} s")
-        assert longest < SOON, "too long"
-
-    return test
+    is_over = threading.Event()
+    served_here = served(program, 2, connections + 2, config=ROOMY)
+    with served_here as server, server.client() as bob, ThreadPoolExecutor() as pool:
+        bob.hello("bob")
+        behaved = pool.submit(behave, bob, bob.create("document", "rw"), is_over)
+        try:
+            rough(server)
+            server.greet()
+        finally:
+            is_over.set()
+        longest = behaved.result(SECONDS)
+    print(f"  the longest wait was {longest:.3f} s")
+    assert longest < SOON, "too long"
 
 
 def waits_in_a_line(server: Server) -> None:
@@ -316,18 +310,15 @@ def slots_come_back(program: Path) -> None:
         alice.bye()
 
 
-def of_example(name: str, *wanted: str) -> Test:
+@parametrised
+def of_example(program: Path, name: str, *wanted: str) -> None:
     """An example ends well and reports what is wanted; its server says what a round may keep."""
-
-    def test(program: Path) -> None:
-        found = example(name, program)
-        for text in [*wanted, "its one history agree."]:
-            assert text in found.stdout, f"{text} is not in {found.stdout}"
-        same(found.returncode, 0)
-        kept = re.fullmatch(r"tgdoc: the history and .* may take \d+ bytes .*\n", found.stderr)
-        assert kept, f"on standard error: {found.stderr!r}"
-
-    return test
+    found = example(name, program)
+    for text in [*wanted, "its one history agree."]:
+        assert text in found.stdout, f"{text} is not in {found.stdout}"
+    same(found.returncode, 0)
+    kept = re.fullmatch(r"tgdoc: the history and .* may take \d+ bytes .*\n", found.stderr)
+    assert kept, f"on standard error: {found.stderr!r}"
 
 
 def tests_at_once() -> Tests:

@@ -6,7 +6,7 @@ import socket
 import time
 from pathlib import Path
 
-from checking import Test, Tests, named, same
+from checking import Tests, named, parametrised, same
 from running import joined
 from server.servers import AGREED, BYE, CONFIG, CREATE, HELLO, LOOK, MADE, NOT_JSON, PARTED, ROOMY
 from server.servers import SEEN, WELCOME, is_silent, poured, read_all, read_line, refusal_of, served
@@ -25,14 +25,11 @@ TALKS = transcripts(HERE / "talks.txt")
 SHORT_TALK = TALKS["short-talk"]
 
 
-def one_talk(answer: bytes, *pieces: bytes, config: bytes = CONFIG) -> Test:
+@parametrised
+def one_talk(program: Path, answer: bytes, *pieces: bytes, config: bytes = CONFIG) -> None:
     """A server of one connection, over which the pieces are sent, and the whole of the answers."""
-
-    def test(program: Path) -> None:
-        with served(program, 1, 1, config=config) as server:
-            same(server.exchange(*pieces), answer)
-
-    return test
+    with served(program, 1, 1, config=config) as server:
+        same(server.exchange(*pieces), answer)
 
 
 def answer_comes_before_more(program: Path) -> None:

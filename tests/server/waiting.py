@@ -12,7 +12,7 @@ import socket
 import time
 from pathlib import Path
 
-from checking import Test, Tests, named, same
+from checking import Tests, named, parametrised, same
 from server.servers import AGREED, BYE, CREATE, DONE, HELLO, LOOK, MADE, PARTED, READ, SEEN, WELCOME
 from server.servers import WRITE, is_silent, read_all, read_line, served, takes
 
@@ -33,22 +33,21 @@ def ended_by_server(one: socket.socket) -> bytes | None:
         return None
 
 
-def silent_clients(sent: bytes, answered: bytes, workers: int = 4, rounds: int = 1) -> Test:
+@parametrised
+def silent_clients(
+    program: Path, sent: bytes, answered: bytes, workers: int = 4, rounds: int = 1
+) -> None:
     """So many clients at each worker send this and then nothing; one more, that behaves, is
     answered once patience with each is over."""
-
-    def test(program: Path) -> None:
-        count = workers * rounds
-        with contextlib.ExitStack() as stack:
-            server = stack.enter_context(served(program, workers, count + 1, *PATIENT))
-            with takes(rounds * PATIENCE, LATEST):
-                silent = [stack.enter_context(server.connection()) for _ in range(count)]
-                for one in silent:
-                    one.sendall(sent)
-                server.greet()
-            same([ended_by_server(one) for one in silent], [answered] * count)
-
-    return test
+    count = workers * rounds
+    with contextlib.ExitStack() as stack:
+        server = stack.enter_context(served(program, workers, count + 1, *PATIENT))
+        with takes(rounds * PATIENCE, LATEST):
+            silent = [stack.enter_context(server.connection()) for _ in range(count)]
+            for one in silent:
+                one.sendall(sent)
+            server.greet()
+        same([ended_by_server(one) for one in silent], [answered] * count)
 
 
 def sends_all(one: socket.socket, lines: bytes, times: int) -> None:
