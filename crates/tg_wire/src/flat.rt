@@ -21,7 +21,7 @@ use crate::key::Key;
 use crate::member::{Member, Plain};
 use crate::members::Members;
 use crate::op::Op;
-use crate::scan::{byte_at, place_of, read_key, read_number, read_text, spaces_end, text_of};
+use crate::scan::{after_spaces, place_of, read_key, read_number, read_text, spaces_end, text_of};
 use crate::unescaped::Unescaped;
 
 /// A flat object: its members in the order of the line.
@@ -76,9 +76,8 @@ fn read_members<'a>(
     let mut room = room;
     let mut at = from;
     loop {
-        let (member, end) = read_member(line, at, &mut room)?;
-        // Read later, the byte would be read twice: the look for spaces has read it.
-        let mark = byte_at(bytes, end);
+        let (member, after) = read_member(line, at, &mut room)?;
+        let (end, mark) = after_spaces(bytes, after);
         found.add(member)?;
         match mark {
             b',' => at = end + 1,
@@ -88,7 +87,7 @@ fn read_members<'a>(
     }
 }
 
-/// The member at a place, and the place of the comma or the brace after it.
+/// The member at a place, and the place after it.
 #[inline(always)]
 fn read_member<'a>(
     line: &'a str,
@@ -104,10 +103,9 @@ fn read_member<'a>(
     let quote = place_of(bytes, from, b'"')?;
     let (key, after) = read_key(bytes, quote)?;
     let between = place_of(bytes, after, b':')?;
-    let start = spaces_end(bytes, between + 1);
-    let first = byte_at(bytes, start);
+    let (start, first) = after_spaces(bytes, between + 1);
     let (value, end) = read_value(line, start, first, room)?;
-    Some((Member { key, value }, spaces_end(bytes, end)))
+    Some((Member { key, value }, end))
 }
 
 /// The value at a place, which begins with this byte, and the place after it.

@@ -59,6 +59,24 @@ pub(crate) fn spaces_end(bytes: &[u8], from: usize) -> usize
     at
 }
 
+/// The first place from this one on that has no space, and the byte there, or a space behind the last one.
+// The byte comes along, since it would be read anew behind a branch.
+#[inline(always)]
+pub(crate) fn after_spaces(bytes: &[u8], from: usize) -> (usize, u8)
+    requires { from ≤ length bytes.now }
+    ensures place { EndsRun is_space bytes.now from result.0 }
+    ensures byte { get_or bytes.now result.0 32 ≡ result.1 }
+{
+    if from < bytes.len() {
+        let byte = bytes[from];
+        if byte > b' ' {
+            return (from, byte);
+        }
+    }
+    let at = spaces_end(bytes, from);
+    (at, byte_at(bytes, at))
+}
+
 /// The place of this byte, from which it may stand behind spaces.
 // Most lines have no spaces, so that the byte is looked for first.
 #[inline(always)]

@@ -18,10 +18,9 @@ returns-clause-found c =
     let key = subst (λ t. lex between (drop quote t) ≡ token (string (key_text c.in_ok-key.key)) ∷ lex between (drop after t)) same c.in_ok-key.ensures.found in
     let behind_key = subst (λ t. lex between (drop after t) ≡ lex between (drop colon_at t)) same c.in_ok-between.ensures.spaces in
     let is_colon : get_or d colon_at 32 ≡ 58 = subst (λ t. get_or t colon_at 32 ≡ 58) same c.in_ok-between.ensures.byte in
-    let behind_colon = spaces_at d (colon_at + 1) c.spaces_end-start.result (subst (λ t. EndsAt is_space t (colon_at + 1) c.spaces_end-start.result) same c.spaces_end-start.ensures.value) in
-    let behind_value = spaces_at d c.in_ok-value.end c.spaces_end.result (subst (λ t. EndsAt is_space t c.in_ok-value.end c.spaces_end.result) same c.spaces_end.ensures.value) in (
+    let behind_colon = spaces_at d (colon_at + 1) c.after_spaces-start.result.0 (subst (λ t. EndsAt is_space t (colon_at + 1) c.after_spaces-start.result.0) same c.after_spaces-start.ensures.place.value) in (
       value.0,
       value.1,
       first ∙ key ∙ ap (λ ls. token (string (key_text c.in_ok-key.key)) ∷ ls) (behind_key ∙ operator_at d colon_at 58 refl is_colon (λ z. omega arith)
-          ∙ ap (λ ls. colon ∷ ls) (behind_colon ∙ value.2 ∙ ap (λ ls. token value.0 ∷ ls) behind_value)),
+          ∙ ap (λ ls. colon ∷ ls) (behind_colon ∙ value.2)),
     )
