@@ -31,8 +31,7 @@ Size = tuple[str, str, str, str]
 
 # What says that memory ran out, if it is a value and not a type.
 WANT = re.compile(
-    r"\b(?:\w+::(?:OutOfMemory|NoMemory|NoRoom)|Said::Nothing)\b"
-    r"|(?<!: )\bAllocError\b(?!>)"
+    r"\b(?:\w+::(?:OutOfMemory|NoMemory|NoRoom)|Said::Nothing)\b" r"|(?<!: )\bAllocError\b(?!>)"
 )
 NONE = re.compile(r"\bNone\b")
 

@@ -11,8 +11,9 @@ from faults import faults
 from faults.faults import INTERRUPTED, Fault, Ran
 from program.programs import CONFIG
 from running import Word, ran, started, unreadable
-from server.servers import ANY_PORT, LONG
+from server.servers import ANY_PORT
 
+LONG = b" " * 16_385 + b"\n"
 GOAL = b'{"from":1,"rights":"r","to":2}\n'
 # Configurations of which the names are refused: two are the same, and one is malformed.
 TWICE = b'{"principals":["alice","alice"]}\n'

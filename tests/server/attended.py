@@ -28,7 +28,7 @@ from checking import Tests, named, same, skipped
 from faults import faults
 from faults.faults import Fault, Ran
 from models.graph import Graph
-from models.reading import read_config, read_event, read_step
+from models.reading import line_of, read_config, read_event, read_step
 from running import ROOT, Process, Word, asked, hear, ran, started, tell
 from server.listening import free_port
 from server.servers import AGREED, ANY_PORT, BYE, CONFIG, CREATE, CREATED, HELLO, LOOK, PARTED, READ
