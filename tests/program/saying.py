@@ -2,6 +2,7 @@
 
 import os
 import pty
+import re
 import socket
 import subprocess
 from pathlib import Path
@@ -107,6 +108,21 @@ def lines_behind_the_last_unexplained(program: Path) -> None:
         same((b"".join(said), found.returncode), (wanted, 1), f"{word} of {given[:40]!r}")
 
 
+def no_other_field_blamed_without_memory(program: Path) -> None:
+    """Whichever allocation fails, no field is said to be at fault that is not."""
+    given = CONFIG + b'{"op":"write","over":2,"text":"%s","x":1}\n' % (b"a" * 100)
+    given += b'{"op":"enrol","name":"%s","rights":"r","x":1}\n' % (b"a" * 32)
+
+    def attempt(fault: Fault) -> Ran:
+        with faults.at_fault(fault) as (how, count):
+            found = ran(program, "run", "--explain", given=given, **how)
+            return Ran(found.stderr, found.returncode, count())
+
+    for number, found in faults.each(attempt, Fault("memory")):
+        blamed = re.findall(rb"^line \d: .*field (\w+)$", found.output, re.MULTILINE)
+        assert set(blamed) <= {b"x"}, f"at allocation {number}: {found.output!r}"
+
+
 def nothing_else_explained(program: Path) -> None:
     """No other mode takes the word, and nothing stands behind it."""
     for words in (["draw", "--explain"], ["run", "--explain", "x"], ["run"] + ["--explain"] * 2):
@@ -191,4 +207,4 @@ def tests() -> Tests:
         rows = [(MADE, None), step, (b"x", None)]
         yield f"refused-step-{number}-explained", explains("audit", CONFIG + GOAL, rows)
     yield from named(last_line_explained, lines_behind_the_last_unexplained)
-    yield from named(nothing_else_explained)
+    yield from named(no_other_field_blamed_without_memory, nothing_else_explained)

@@ -1,8 +1,9 @@
 //! Which field of a refused line is at fault, for whoever wrote the line. No contract says so.
 
+use crate::fault::WireFault;
 use crate::field;
 use crate::field::has;
-use crate::key::Key;
+use crate::key::{Key, is_word_in_either};
 use crate::object::{LineObject, tree};
 use crate::op::{Op, step_rule_named};
 use std::alloc::Global;
@@ -51,12 +52,7 @@ fn missing_key(kind: LineKind, op: Op, object: &LineObject<'_>) -> Option<Key> {
     if kind == LineKind::Step && !has(object, Key::Actor) {
         return Some(Key::Actor);
     }
-    for key in op.keys() {
-        if !has(object, *key) {
-            return Some(*key);
-        }
-    }
-    None
+    op.keys().iter().copied().find(|key| !has(object, *key))
 }
 
 fn bad_key(alloc: Global, kind: LineKind, op: Op, object: &LineObject<'_>) -> Option<Key> {
@@ -64,22 +60,20 @@ fn bad_key(alloc: Global, kind: LineKind, op: Op, object: &LineObject<'_>) -> Op
     if field::optional_number(object, acting, 0).is_none() {
         return Some(acting);
     }
-    for key in op.keys() {
-        if !is_good(alloc, op, object, *key) {
-            return Some(*key);
-        }
-    }
-    None
+    op.keys()
+        .iter()
+        .copied()
+        .find(|key| !is_good(alloc, op, object, *key))
 }
 
-/// Whether the value of a field is one that it may have.
+/// Whether the value of a field is one that it may have, as far as there is memory to read it.
 fn is_good(alloc: Global, op: Op, object: &LineObject<'_>, key: Key) -> bool {
     match key {
         Key::Rights => field::rights(object).is_some(),
         Key::Kind => field::kind(object).is_some(),
-        Key::Text => field::text(alloc, object).is_ok(),
+        Key::Text => !matches!(field::text(alloc, object), Err(WireFault::BadField)),
         Key::Name if op == Op::Hello => field::string(object, key).is_some(),
-        Key::Name => field::name(alloc, object).is_ok(),
+        Key::Name => !matches!(field::name(alloc, object), Err(WireFault::BadField)),
         _ => field::number(object, key).is_some(),
     }
 }
@@ -98,13 +92,5 @@ fn unknown_key(alloc: Global, kind: LineKind, op: Op, object: &LineObject<'_>) -
 }
 
 fn is_known(kind: LineKind, op: Op, word: &str) -> bool {
-    if word == Key::Op.word() || word == acting_key(kind).word() {
-        return true;
-    }
-    for key in op.keys() {
-        if word == key.word() {
-            return true;
-        }
-    }
-    false
+    is_word_in_either(word, &[Key::Op, acting_key(kind)], op.keys())
 }
