@@ -1,13 +1,12 @@
 //! A talk: a client's lines, answered over one session.
 
-ghost use Rattle.std.specs.Prelude.{◌≡◌, ◌≢◌, ◌↔◌, ◌≤◌, ◌+◌, [], true, false, IfSome, IsNone, None, Some};
+ghost use Rattle.std.specs.Prelude.{◌≡◌, ◌≢◌, ◌↔◌, ◌≤◌, [], true, false, IfSome, IsNone, None, Some};
 ghost use Rattle.std.specs.Io.KnownBytes.{Keeps};
 ghost use Rattle.tg_talk.specs.Promise.Devices.{device_of, has_failed, owed, promised};
 ghost use Rattle.tg_talk.specs.Promise.Talks.{HasTalked};
 ghost use Rattle.tg_talk.specs.Promise.Answering.{Saying, saying};
 ghost use Rattle.tg_talk.specs.Inner.Talking.{HostSays, Leaves, SaysTo};
 ghost use Rattle.tg_talk.specs.declared.fault.TalkFault.TheVariants.{OutOfMemory, Reading, Writing};
-ghost use Rattle.tg_talk.specs.declared.line_buffer.TheConstants.{MOST_LINES};
 
 use crate::answering::{Responder, Said, answer_lines};
 use crate::fault::TalkFault;
@@ -59,7 +58,7 @@ pub fn talk<L: Ledger, D: Read, W: Write + Drop, R: Wait + Clock, G: Gate>(
     ensures paid { has_failed writer.new ≡ false → owed writer.new ≡ [] }
     ensures reading { (has_failed reader.new ≡ true) ↔ (result.fault ≡ Some Reading) }
     ensures writing { (has_failed writer.new ≡ true) ↔ (result.fault ≡ Some Writing) }
-    ensures few { result.lines ≤ MOST_LINES + 1 }
+    ensures few { result.lines ≤ 1000001 }
     ensures seat { IfSome result.ended (λ e. e.log.seat ≡ seat) }
     // If the talk's buffer lacks memory. A reply that lacks memory ends the talk after a line.
     ensures unread { result.fault ≡ Some OutOfMemory → result.lines ≡ 0

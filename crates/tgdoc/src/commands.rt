@@ -195,7 +195,9 @@ fn round_option<'a>(alloc: Global) -> Arg<'a>
 {
     option(alloc, "round", "R")
         .value_parser(ValueParser::unsigned(1, MOST_CONNECTIONS))
-        .help("Connections served before the history is dropped; without it, all, or 1000000 without --connections")
+        .help(
+            "Connections served before the history is dropped; without it, all, or 1000000 without --connections",
+        )
 }
 
 fn patience_option<'a>(alloc: Global) -> Arg<'a>
