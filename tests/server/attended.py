@@ -557,12 +557,13 @@ def history_replays(program: Path) -> None:
 
 
 def history_that_cannot_be_written(program: Path) -> None:
-    """A history that cannot be written is said once on standard error, the server serves all the
-    same, and the status is 1."""
-    with attended(program, "--history", "/dev/full/steps") as server:
-        server.greet()
-        server.stop((AGREED[0], 1))
-        same(server.said().count(b"/dev/full/steps"), 1)
+    """If the file of a history cannot be opened, standard error says so, and nobody is served."""
+    with tempfile.TemporaryDirectory() as folder:
+        words = ("--control", f"{folder}/control", "--history", "/dev/full/steps")
+        found = ran(program, "serve", *ANY_PORT, *words, given=CONFIG)
+        same((found.stdout, found.returncode), (b"", 1))
+        same(found.stderr.count(b"/dev/full/steps"), 1)
+        same(os.listdir(folder), [], "what is left")
 
 
 def history_without_room(program: Path) -> None:

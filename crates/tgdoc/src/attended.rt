@@ -100,7 +100,7 @@ pub(crate) fn keep_history<N: Wait + Clock, H: Files + Eprint>(
     desk: &Desk,
     path: &str,
 ) -> bool {
-    let mut is_whole = append_or_say(host, alloc, path, &[]);
+    let mut is_whole = true;
     for _ in rt.forever() {
         let is_last = desk.has_ended();
         for history in desk.take_histories(rt, alloc) {
@@ -116,6 +116,11 @@ pub(crate) fn keep_history<N: Wait + Clock, H: Files + Eprint>(
         thread::sleep(rt, Duration::from_millis(REST));
     }
     is_whole
+}
+
+/// Whether the file can be appended to; it is made if there is none. If not, standard error says why.
+pub(crate) fn can_append<N: Files + Eprint>(rt: &N, alloc: Global, path: &str) -> bool {
+    append_or_say(rt, alloc, path, &[])
 }
 
 /// Appends lines of the steps that changed edges to the file; returns whether that was done. If not, standard error

@@ -4,7 +4,7 @@ ghost use Rattle.std.specs.Process.{exit_status};
 ghost use Rattle.tg_talk.specs.Promise.Devices.{device_of, has_failed};
 ghost use Rattle.tg_serve.specs.Promise.Serving.{IsServed};
 
-use crate::attended::{keep_history, keep_log};
+use crate::attended::{can_append, keep_history, keep_log};
 use crate::saying::{say_no_memory, say_no_thread};
 use std::alloc::{AllocError, Global};
 use std::fs::{Files, Metadata};
@@ -89,7 +89,8 @@ fn is_another<N: Files>(rt: &N, path: &str, made: Option<Metadata>) -> bool {
     }
 }
 
-/// Serves clients as asked, with a log and a history if these are asked for, and a control socket if one is given.
+/// Serves clients as asked, with a log and a history if these are asked for, and a control socket if one is given. Nobody
+/// is served if the file of the history cannot be opened; standard error says so.
 pub(crate) fn serve_attended<N: Platform + Eprint, R: Read, W: Write>(
     rt: &N,
     host: &HostRuntime,
@@ -101,6 +102,11 @@ pub(crate) fn serve_attended<N: Platform + Eprint, R: Read, W: Write>(
     requires reads { has_failed reader.old ≡ false }
     requires writes { has_failed writer.old ≡ false }
 {
+    if let Some(path) = asked.history.as_deref()
+        && !can_append(host, host.alloc(), path)
+    {
+        return ExitCode::FAILURE;
+    }
     let Ok(desk) = desk_of(host.alloc(), asked) else {
         say_no_memory(rt);
         return ExitCode::FAILURE;
