@@ -137,24 +137,24 @@ fn serve_beside<N: Platform + Eprint, R: Read, W: Write>(
             requires reads { has_failed reader.now ≡ false }
             requires writes { has_failed writer.now ≡ false }
         {
-            let mut is_attended = true;
+            let mut all_started = true;
             if let Some(listener) = socket {
-                is_attended = scope
+                all_started = scope
                     .spawn(move || attend(rt, alloc, listener, desk, serving))
                     .is_ok();
             }
             if asked.operating.notifies {
                 let is_logged = scope.spawn(move || keep_log(rt, alloc, desk)).is_ok();
-                is_attended = is_attended && is_logged;
+                all_started = all_started && is_logged;
             }
             let mut keeper = None;
             if let Some(path) = asked.history.as_deref() {
                 keeper = scope
                     .spawn(move || keep_history(rt, host, alloc, desk, path))
                     .ok();
-                is_attended = is_attended && keeper.is_some();
+                all_started = all_started && keeper.is_some();
             }
-            let served = if is_attended {
+            let served = if all_started {
                 serve_clients(rt, alloc, reader, writer, asked, desk)
             } else {
                 say_no_thread(rt);
