@@ -12,7 +12,7 @@ from pathlib import Path
 from random import Random
 
 from checking import Tests, named, parametrised, same
-from fuzz.differential import NAMES, SESSION_OPS, command, row_of, seeds, some
+from fuzz.differential import NAMES, SESSION_OPS, command, edges_among, row_of, seeds
 from models.collector import Course
 from models.graph import Graph
 from models.reading import Config, Event, line_of, read_config, read_event
@@ -60,12 +60,6 @@ def many_clients_in_a_round(program: Path) -> None:
     same(found[8:], [WELCOME + b'{"edges":[%s],"ok":"edges"}\n' % edges + PARTED] * 4)
 
 
-def opening(source: Random) -> dict[str, object]:
-    """A configuration of four principals with room for all that a test makes."""
-    pairs = [(x, y) for x in range(1, 5) for y in range(1, 5) if x != y and source.random() < 0.6]
-    return {"principals": NAMES, "edges": [[x, some(source), y] for x, y in pairs]}
-
-
 def answer(graph: Graph, event: Event) -> bytes:
     """A server's answer to a line of a talk; a target is finished before it is answered."""
     found = graph.judged(event) or graph.carried_out(event)
@@ -98,7 +92,8 @@ def same_before_and_after_a_rebase(program: Path) -> None:
     what lives after each round, and those of one that never is."""
     for seed in seeds():
         source = random.Random(f"{seed}/rounds")
-        config = line_of(opening(source)) + b"\n"
+        edges = edges_among(source, len(NAMES))
+        config = line_of({"principals": NAMES, "edges": edges}) + b"\n"
         cut, whole = (Graph(read_config(config[:-1])) for _ in range(2))
         dropped: list[int] = []
         with served(program, 1, 20, "--round", "1", config=config, ends=None) as server:
