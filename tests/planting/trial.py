@@ -1,6 +1,5 @@
 """The planted bugs of a crate, tried: many in one check, and the others one by one."""
 
-import re
 import sys
 import tempfile
 from collections.abc import Callable, Iterable

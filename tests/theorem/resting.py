@@ -4,11 +4,10 @@ that what public contracts rest on stands apart from all else."""
 from pathlib import Path
 
 from checking import Tests
+from running import ROOT
 from theorem import folders, lapses
 from theorem.compared import complaints, sizes
 from theorem.sources import Sources
-
-ROOT = Path(__file__).resolve().parents[2]
 
 
 def is_listed(crates: Path) -> None:
