@@ -7,14 +7,21 @@ import subprocess
 import threading
 from collections.abc import Iterator
 from pathlib import Path
-from typing import Any
+from typing import IO, Any
 
 ROOT = Path(__file__).resolve().parents[1]
 # A program is killed after this many seconds.
 SECONDS = 60
 
-Process = subprocess.Popen[bytes]
 Word = str | bytes | Path
+
+
+class Process(subprocess.Popen[bytes]):
+    """A program that runs. A test uses those of its streams that are pipes."""
+
+    stdin: IO[bytes]
+    stdout: IO[bytes]
+    stderr: IO[bytes]
 
 
 def joined(*rows: bytes) -> bytes:
@@ -57,7 +64,7 @@ def started(program: Path, *words: Word, seconds: float = SECONDS, **how: Any) -
     """A program that runs while a test talks to it. It is killed in the end, or when its time is
     over: a read from it then finds no more bytes."""
     how = {"stdin": subprocess.PIPE, "stdout": subprocess.PIPE, **how}
-    with subprocess.Popen([str(program), *words], **how) as process:
+    with Process([str(program), *words], **how) as process:
         limit = threading.Timer(seconds, process.kill)
         limit.start()
         try:
@@ -69,20 +76,17 @@ def started(program: Path, *words: Word, seconds: float = SECONDS, **how: Any) -
 
 def tell(process: Process, some: bytes) -> None:
     """Sends these bytes at once."""
-    assert process.stdin
     process.stdin.write(some)
     process.stdin.flush()
 
 
 def hear(process: Process) -> bytes:
     """The next line that is written."""
-    assert process.stdout
     return process.stdout.readline()
 
 
 def rest_of(process: Process) -> tuple[bytes, int]:
     """Ends the input; what is still written, and the status."""
-    assert process.stdin and process.stdout
     process.stdin.close()
     return process.stdout.read(), process.wait(SECONDS)
 

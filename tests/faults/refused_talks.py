@@ -132,7 +132,6 @@ def serve(
             for lines in talks:
                 connection = connected(process, port)
                 answers += talk(connection, lines) if connection else [None] * len(lines)
-            assert process.stdout
             output, status = process.stdout.read(), process.wait(SECONDS)
         return Served(answers, output, status, count(), port)
 

@@ -62,7 +62,6 @@ def refused_line_of_an_audit_is_answered_at_once(program: Path) -> None:
     """A line that is refused ends an audit though its input goes on."""
     with started(program, "audit") as process:
         tell(process, CONFIG + b"{}\n")
-        assert process.stdout
         same(process.stdout.read(), b'{"error":"missing field"}\n')
         same(process.wait(), 1)
 

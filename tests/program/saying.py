@@ -173,7 +173,6 @@ def waits_for_its_configuration(program: Path) -> None:
     how = {"stdin": follower, "stderr": subprocess.PIPE}
     with started(program, "serve", *ANY_PORT, "--connections", "1", **how) as process:
         os.close(follower)
-        assert process.stderr
         said = [process.stderr.readline() for _ in range(2)]
     os.close(leader)
     assert any(b"waiting for the configuration" in line for line in said), said

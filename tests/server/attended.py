@@ -81,7 +81,6 @@ class Attended(Server):
 
     def said(self) -> bytes:
         """All of standard error, once the server has ended."""
-        assert self.process.stderr
         return self.process.stderr.read()
 
 
@@ -140,7 +139,7 @@ def stop_before_the_configuration(program: Path) -> None:
             until("a socket", lambda: os.path.exists(path))
             line, status = asked(program, "control", path, "stop", "--within", "0")
             same((line, status), (b'{"ok":"stop"}\n', 0))
-            assert process.stdout and not select.select([process.stdout], [], [], 0.5)[0]
+            assert not select.select([process.stdout], [], [], 0.5)[0], "an address already"
             tell(process, CONFIG)
             assert b'{"listening":' in hear(process)
             same((process.stdout.read(), process.wait(30)), AGREED)
@@ -639,7 +638,6 @@ def control_subcommand(program: Path) -> None:
         same((json.loads(line)["round"], status), (1, 0))
         watch = ("control", server.path, "status", "--watch", "1")
         with started(program, *watch, stderr=subprocess.DEVNULL) as watching:
-            assert watching.stdout
             shown = os.read(watching.stdout.fileno(), 4_096)
             assert b"slots [" in shown and b"free of 8" in shown, shown
             same(control("end-round", "--within", "0"), (b'{"ok":"end round"}\n', 0))

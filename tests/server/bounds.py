@@ -148,7 +148,6 @@ def short(
         server = Server(process)
         yield server
         same(server.end(), AGREED)
-        assert process.stderr
         said = process.stderr.read().decode()
         assert warning in said and bool(warning) == ("open files" in said), said
         assert logged in said, said

@@ -27,7 +27,7 @@ def accepted(
     """A command line that is taken: one client is served, perhaps after the end of the input; the
     address that is written has a real port, and this host if one is given."""
     with running(program, *words, config=config) as process:
-        if is_whole and process.stdin:
+        if is_whole:
             process.stdin.close()
         server = Server(process)
         server.greet()

@@ -81,7 +81,6 @@ class Server:
 
     def end(self) -> tuple[bytes, int]:
         """What it writes after its first line, and its status, once all connections are over."""
-        assert self.process.stdout
         return self.process.stdout.read(), self.process.wait(SECONDS)
 
 
