@@ -1,5 +1,5 @@
-"""The promises of docs/THEOREM.md, which promises.txt lists, and on which definitions each rests, by
-the sources.
+"""The promises of docs/THEOREM.md, which promises.txt lists, and on which definitions each rests,
+by the sources.
 
 A promise is a record of crates/*/specs, or what functions' contracts say. It rests on the
 definitions that it names, on those that these name, and so on; of a type of the code, on what
