@@ -9,6 +9,7 @@ it, or with it. All other answers are in scripts.py. Each test prints how many c
 import os
 from collections import Counter
 from collections.abc import Callable, Sequence
+from functools import partial
 from pathlib import Path
 
 from checking import Tests, parametrised, same
@@ -31,6 +32,8 @@ FEW = 16
 End = tuple[bytes, int]
 # The answers to the lines of an input.
 Answers = Callable[[bytes], list[bytes]]
+# How a run on an input ends.
+Ending = Callable[[bytes], End]
 Places = tuple[int, ...]
 
 
@@ -179,9 +182,7 @@ HARMLESS = (1, INTERRUPTED)
 
 
 @parametrised
-def reads_gone_wrong(
-    program: Path, word: str, given: bytes, moves: int, wanted: Callable[[bytes], End]
-) -> None:
+def reads_gone_wrong(program: Path, word: str, given: bytes, moves: int, wanted: Ending) -> None:
     """Each read of few bytes fails, or moves one byte, or is interrupted, or it and all after it
     find the end; `wanted` has the output and status from the bytes read."""
 
@@ -240,7 +241,7 @@ def answers_in_one_write(program: Path, word: str, given: bytes, answers: list[b
 
 
 @parametrised
-def cut_inputs(program: Path, word: str, given: bytes, wanted: Callable[[bytes], End]) -> None:
+def cut_inputs(program: Path, word: str, given: bytes, wanted: Ending) -> None:
     """An input that ends after each of its bytes is answered line by line."""
     for count in range(len(given) + 1):
         found = ran(program, [word], given[:count], Fault())
@@ -266,46 +267,43 @@ def unread(program: Path, word: str) -> None:
         os.close(writing)
 
 
+def told_by_run(given: bytes) -> list[bytes]:
+    """What a run answers to the lines that are whole."""
+    whole = given[: given.rfind(b"\n") + 1]
+    return answers_to(scripts.PLAIN, whole) if whole else []
+
+
+def told_by_audit(given: bytes) -> list[bytes]:
+    """What an audit answers: nothing before its end."""
+    return AUDIT.answers if given == AUDIT.given else []
+
+
+def tests_of_calls(word: str, given: bytes, told: Answers, end: Ending, cut_off: Ending) -> Tests:
+    """Reads and writes of a mode that go wrong; `cut_off` is how it ends if a read fails."""
+    for name, moves, wanted in [
+        ("fail", FAILS, cut_off),
+        ("find-the-end", 0, end),
+        ("move-one-byte", 1, end),
+        ("are-interrupted", INTERRUPTED, end),
+    ]:
+        yield f"reads-of-{word}-that-{name}", reads_gone_wrong(word, given, moves, wanted)
+    kinds = {"fail": FAILS, "take-no-byte": 0, "take-one-byte": 1, "are-interrupted": INTERRUPTED}
+    for name, moves in kinds.items():
+        yield f"writes-of-{word}-that-{name}", writes_gone_wrong(word, given, moves, told)
+    from_then_on = writes_gone_wrong(word, given, FAILS, told, True)
+    yield f"writes-of-{word}-that-fail-from-then-on", from_then_on
+    yield f"answers-of-{word}-in-one-write", answers_in_one_write(word, given, told(given))
+
+
 def tests_of_devices() -> Tests:
     """Reads and writes of `run` and `audit` that go wrong, and inputs that are cut."""
-    script, audit, short = scripts.PLAIN, AUDIT, scripts.SHORT
-    inputs = {"run": script.given, "audit": audit.given}
-    ends: dict[str, Callable[[bytes], End]] = {
-        "run": lambda given: end_of_run(script, given),
-        "audit": lambda given: end_of_audit(audit, given),
-    }
-    # what is whole before a read that fails
-    told: dict[str, Answers] = {
-        "run": lambda given: (
-            answers_to(script, given[: given.rfind(b"\n") + 1]) if b"\n" in given else []
-        ),
-        "audit": lambda given: audit.answers if given == inputs["audit"] else [],
-    }
-    cut_off: dict[str, Callable[[bytes], End]] = {
-        "run": lambda given: (joined(*told["run"](given)), 1),
-        "audit": lambda _: (b"", 1),
-    }
-    for word, given in inputs.items():
-        for name, moves, ends_so in [
-            ("fail", FAILS, cut_off[word]),
-            ("find-the-end", 0, ends[word]),
-            ("move-one-byte", 1, ends[word]),
-            ("are-interrupted", INTERRUPTED, ends[word]),
-        ]:
-            yield f"reads-of-{word}-that-{name}", reads_gone_wrong(word, given, moves, ends_so)
-        for name, moves in [
-            ("fail", FAILS),
-            ("take-no-byte", 0),
-            ("take-one-byte", 1),
-            ("are-interrupted", INTERRUPTED),
-        ]:
-            yield f"writes-of-{word}-that-{name}", writes_gone_wrong(word, given, moves, told[word])
-        from_then_on = writes_gone_wrong(word, given, FAILS, told[word], True)
-        yield f"writes-of-{word}-that-fail-from-then-on", from_then_on
-        in_one = answers_in_one_write(word, given, told[word](given))
-        yield f"answers-of-{word}-in-one-write", in_one
-    yield "cut-inputs-of-run", cut_inputs("run", short.given, lambda it: end_of_run(short, it))
-    yield "cut-inputs-of-audit", cut_inputs("audit", inputs["audit"], ends["audit"])
+    script, short, of_audit = scripts.PLAIN, scripts.SHORT, partial(end_of_audit, AUDIT)
+    runs = "run", script.given, told_by_run, partial(end_of_run, script)
+    yield from tests_of_calls(*runs, lambda given: (joined(*told_by_run(given)), 1))
+    audits = "audit", AUDIT.given, told_by_audit, of_audit
+    yield from tests_of_calls(*audits, lambda _: (b"", 1))
+    yield "cut-inputs-of-run", cut_inputs("run", short.given, partial(end_of_run, short))
+    yield "cut-inputs-of-audit", cut_inputs("audit", AUDIT.given, of_audit)
     for word in FIRST_LINES:
         yield f"closed-input-of-{word}", closed(word, "<&-")
         yield f"closed-output-of-{word}", closed(word, ">&-")
