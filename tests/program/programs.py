@@ -8,8 +8,10 @@ import subprocess
 from pathlib import Path
 
 from checking import Test, Tests, named, parametrised, same
+from program.lines import HERE
 from running import ROOT, Word, asked, example, hear, ran, rest_of, started, tell, unreadable
 from server.servers import BYE, HELLO, PARTED, WELCOME
+from transcripts import transcripts
 
 CONFIG = b'{"principals":["alice"]}\n'
 DERIVATION = CONFIG + b'{"from":1,"rights":"r","to":2}\n'
@@ -204,14 +206,8 @@ def tests_of_pipes() -> Tests:
 
 def tests_of_words() -> Tests:
     """Command lines that are refused."""
-    for word in ("run", "audit", "draw"):
-        yield f"dashes-before-{word}", refused("--", word)
-        yield f"version-of-{word}", refused(word, "--version")
-        yield f"a-word-too-many-behind-{word}", refused(word, "now")
-        yield f"an-option-that-{word}-does-not-have", refused(word, "--fast")
-    yield "no-word", refused()
-    yield "another-word", refused("steal")
-    yield "two-modes", refused("run", "audit")
+    for name, found in transcripts(HERE / "refused_words.txt").items():
+        yield name, refused(*found.words)
     yield "a-word-that-is-not-utf-8", refused(b"run\xff")
     yield "a-word-that-is-not-utf-8-behind-run", refused("run", b"\xff")
 

@@ -11,7 +11,7 @@ from typing import Any
 from checking import Test, Tests, named, parametrised, same
 from faults import faults
 from faults.faults import Fault
-from program.programs import helped, refused
+from program.programs import helped
 from running import SECONDS, asked, ran, started, tell, unreadable
 from server.servers import AGREED, ANY_PORT, CONFIG, Server, is_silent, running, served
 from tgdoc_client import Client
@@ -165,27 +165,8 @@ def tests_of_listening() -> Tests:
     yield from named(server_whose_streams_are_closed)
 
 
-# The options with values that are refused.
-REFUSED_VALUES = {
-    "workers": ("0", "64", "-1", "+1", "1.5", "x", ""),
-    "connections": ("0", "1000001", "18446744073709551617", "-1", "+1", "x", ""),
-    "patience": ("0", "86401", "-1", "+1", "1.5", "x", ""),
-    "memory": ("0", "1025g", "1.5g", "-1", "+1", "+1m", "1kk", "x", ""),
-}
-
-
 def tests_of_words() -> Tests:
-    """Command lines."""
-    for option, values in REFUSED_VALUES.items():
-        others = () if option == "connections" else ONE
-        for value in values:
-            test = refused("serve", *ANY_PORT, *others, f"--{option}", value)
-            yield f"{option}-{value or 'nothing'}", test
-    yield "listen-missing", refused("serve", *ONE)
-    yield "connections-missing", refused("serve", *ANY_PORT)
-    yield "a-word-too-many-behind-serve", refused("serve", *ANY_PORT, *ONE, "now")
-    yield "an-option-that-serve-does-not-have", refused("serve", *ANY_PORT, *ONE, "--fast")
-    yield "option-without-its-value", refused("serve", *ANY_PORT, "--connections")
+    """Command lines that are taken."""
     yield "most-workers", accepted(*ANY_PORT, "--workers", "63", *ONE)
     yield from named(most_connections)
     yield "most-patience", accepted(*ANY_PORT, *ONE, "--patience", "86400")

@@ -17,8 +17,7 @@ from models.collector import Course
 from models.graph import Graph
 from models.reading import Config, Event, line_of, read_config, read_event
 from models.storage import Run
-from program.programs import refused
-from server.servers import ANY_PORT, BYE, CONFIG, CREATE, HELLO, LOOK, MADE, PARTED, ROOMY, WELCOME
+from server.servers import BYE, CONFIG, CREATE, HELLO, LOOK, MADE, PARTED, ROOMY, WELCOME
 from server.servers import Server, in_rounds, read_line, served
 from transcripts import transcripts
 
@@ -137,6 +136,3 @@ def tests() -> Tests:
     yield "agents-of-earlier-rounds", talks(CONFIG, 1, "acts", "looks", "looks", dropped=[3, 1])
     yield from named(one_waits_for_the_next_round, many_clients_in_a_round)
     yield from named(same_before_and_after_a_rebase)
-    for number in ("0", "1000001", "-1", "+1", "x", ""):
-        words = (*ANY_PORT, "--connections", "1", "--round", number)
-        yield f"round-{number or 'nothing'}", refused("serve", *words)
