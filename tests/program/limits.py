@@ -20,7 +20,7 @@ from checking import Tests, named, needing, parametrised, same
 from models.graph import SEATS
 from models.reading import LONGEST_LINE, LONGEST_TEXT
 from running import SECONDS, asked, instructions, joined
-from server.servers import in_rounds, read_all, read_line, served
+from server.servers import asks, in_rounds, read_all, served
 
 # Lines, each with its seat, and answers.
 HELLO, WELCOME = b'{"name":"%s","op":"hello","seat":%d}', b'{"ok":"hello","vertex":%d}'
@@ -104,8 +104,8 @@ def lines_of_run() -> Rows:
 
 def greeted(connection: socket.socket, seat: int) -> None:
     """The client of a connection is greeted as the principal of a seat."""
-    connection.sendall(longest(HELLO % (NAMES[seat].encode(), 0)) + b"\n")
-    same(read_line(connection), WELCOME % (seat + 1) + b"\n")
+    line = longest(HELLO % (NAMES[seat].encode(), 0)) + b"\n"
+    asks(connection, line, WELCOME % (seat + 1) + b"\n")
 
 
 def talked(connection: socket.socket, seat: int) -> None:

@@ -32,8 +32,8 @@ from models.reading import line_of, read_config, read_event, read_step
 from running import ROOT, Process, Word, asked, hear, ran, started, tell
 from server.listening import free_port
 from server.servers import AGREED, ANY_PORT, BYE, CONFIG, CREATE, CREATED, HELLO, LOOK, PARTED, READ
-from server.servers import SEEN, WELCOME, WRITE, Server, busy_part, in_rounds, is_silent, read_all
-from server.servers import read_line, running, takes
+from server.servers import SEEN, WELCOME, WRITE, Server, asks, busy_part, in_rounds, is_silent
+from server.servers import read_all, read_line, running, takes
 from server.waiting import sends_all
 from transcripts import transcripts
 
@@ -174,11 +174,9 @@ def stop_while_clients_are_silent(program: Path) -> None:
     with attended(program, "--workers", "2") as server:
         with server.seated() as one, server.seated() as two, takes(2, 6):
             server.ask(op="stop", within=2)
-            two.sendall(BYE)
-            same(read_line(two), PARTED)
+            asks(two, BYE, PARTED)
             assert is_silent(one, 1.0), "an answer to no line"
-            one.sendall(LOOK)
-            same(read_line(one), SEEN)
+            asks(one, LOOK, SEEN)
             same(read_all(one), b"")
         same(server.end(), AGREED)
 
@@ -508,8 +506,7 @@ def log_tells(program: Path) -> None:
     with attended(program, "--log", "--round", "2", "--patience", "1") as server:
         server.greet()
         with server.connection() as one:
-            one.sendall(HELLO + b"no json\n")
-            same([read_line(one) for _ in range(2)], [WELCOME, b'{"error":"not json"}\n'])
+            asks(one, HELLO + b"no json\n", WELCOME, b'{"error":"not json"}\n')
             with contextlib.suppress(ConnectionError):
                 read_all(one)
         server.greet("bob")

@@ -15,19 +15,8 @@ from checking import Tests, named, same
 from models.reading import line_of
 from running import ran
 from server.servers import AGREED, ANY_PORT, BYE, CONFIG, CREATE, DONE, HELLO, LOOK, MADE, PARTED
-from server.servers import (
-    READ,
-    WELCOME,
-    WRITE,
-    Server,
-    figure,
-    figure_in,
-    in_rounds,
-    is_silent,
-    pour,
-    read_all,
-)
-from server.servers import read_line, running, served, takes
+from server.servers import READ, WELCOME, WRITE, Server, asks, figure, figure_in, in_rounds
+from server.servers import is_silent, pour, read_all, read_line, running, served, takes
 from server.waiting import sends_all
 
 MEGABYTE = 1 << 20
@@ -94,8 +83,7 @@ def memory_beside_a_flood(program: Path) -> None:
     seen, count = b'{"edges":[[2,"t"],[3,"rw"]],"ok":"edges"}\n', 0
     with served(program, 2, 4, *BOUND, "--round", "2", ends=None) as server:
         with server.connection() as honest:
-            honest.sendall(HELLO + CREATE + LONG_TEXT)
-            same([read_line(honest) for _ in range(3)], [WELCOME, MADE, DONE])
+            asks(honest, HELLO + CREATE + LONG_TEXT, WELCOME, MADE, DONE)
             with ThreadPoolExecutor() as pool, contextlib.suppress(ConnectionError):
                 pool.submit(floods, server, HELLO + READ * 1_000, 200)
                 while honest.send(LOOK) and read_line(honest) == seen:

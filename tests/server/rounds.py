@@ -17,8 +17,8 @@ from models.collector import Course
 from models.graph import Graph
 from models.reading import Config, Event, line_of, read_config, read_event
 from models.storage import Run
-from server.servers import BYE, CONFIG, CREATE, HELLO, LOOK, MADE, PARTED, ROOMY, WELCOME
-from server.servers import Server, in_rounds, read_line, served
+from server.servers import BYE, CONFIG, CREATE, HELLO, LOOK, MADE, PARTED, ROOMY, WELCOME, Server
+from server.servers import asks, in_rounds, read_line, served
 from transcripts import transcripts
 
 
@@ -40,8 +40,7 @@ def one_waits_for_the_next_round(program: Path) -> None:
     with served(program, 1, 2, "--round", "1", ends=in_rounds(1)) as server:
         with server.connection() as first, server.connection() as late:
             late.sendall(HELLO + BYE)
-            first.sendall(HELLO + CREATE + BYE)
-            same([read_line(first) for _ in range(3)], [WELCOME, MADE, PARTED])
+            asks(first, HELLO + CREATE + BYE, WELCOME, MADE, PARTED)
             same([read_line(late) for _ in range(2)], [WELCOME, PARTED])
 
 

@@ -67,8 +67,7 @@ class Server:
     def seated(self) -> Iterator[socket.socket]:
         """A connection over which alice is greeted."""
         with self.connection() as one:
-            one.sendall(HELLO)
-            same(read_line(one), WELCOME)
+            asks(one, HELLO, WELCOME)
             yield one
 
     def exchange(self, *pieces: bytes) -> bytes:
@@ -132,6 +131,12 @@ def read_line(one: socket.socket) -> bytes:
     while not line.endswith(b"\n") and (piece := one.recv(1)):
         line += piece
     return line
+
+
+def asks(one: socket.socket, sent: bytes, *answers: bytes) -> None:
+    """Sends bytes to which these lines are the next answers."""
+    one.sendall(sent)
+    same([read_line(one) for _ in answers], [*answers])
 
 
 def is_silent(one: socket.socket, seconds: float = 0.3) -> bool:

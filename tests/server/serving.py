@@ -24,7 +24,7 @@ from models import owners
 from running import SECONDS, example
 from server import attended, bounds, listening, pacing, piling, rounds, talks, waiting
 from server.servers import AGREED, ANY_PORT, BYE, CREATE, DONE, HELLO, LOOK, PARTED, ROOMY, SEEN
-from server.servers import WELCOME, Server, denied, is_silent, poured, read_line, refusal_of
+from server.servers import WELCOME, Server, asks, denied, is_silent, poured, read_line, refusal_of
 from server.servers import running, served
 from server.talks import ENROL, NO_ACTOR, NO_PRINCIPAL, RETIRE
 from tgdoc_client import Client, Full, Refused
@@ -252,8 +252,7 @@ def beside(program: Path, rough: Callable[[Server], None], connections: int) -> 
 def waits_in_a_line(server: Server) -> None:
     """Sends half a line and waits; then leaves."""
     with server.connection() as one:
-        one.sendall(HELLO + LOOK[:10])
-        same(read_line(one), WELCOME)
+        asks(one, HELLO + LOOK[:10], WELCOME)
         assert is_silent(one, 1.0), "half a line is answered"
 
 

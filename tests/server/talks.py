@@ -9,7 +9,8 @@ from pathlib import Path
 from checking import Tests, named, parametrised, same
 from running import joined
 from server.servers import AGREED, BYE, CONFIG, CREATE, HELLO, LOOK, MADE, NOT_JSON, PARTED, ROOMY
-from server.servers import SEEN, WELCOME, is_silent, poured, read_all, read_line, refusal_of, served
+from server.servers import SEEN, WELCOME, asks, is_silent, poured, read_all, read_line, refusal_of
+from server.servers import served
 from transcripts import transcripts
 
 # Room for one document, by slots and by cells.
@@ -35,14 +36,11 @@ def one_talk(program: Path, answer: bytes, *pieces: bytes, config: bytes = CONFI
 def answer_comes_before_more(program: Path) -> None:
     """Each answer can be read before the next line is sent; half a line has none."""
     with served(program, 1, 1) as server, server.connection() as one:
-        one.sendall(HELLO)
-        same(read_line(one), WELCOME)
+        asks(one, HELLO, WELCOME)
         one.sendall(LOOK[:10])
         assert is_silent(one), "half a line is answered"
-        one.sendall(LOOK[10:])
-        same(read_line(one), SEEN)
-        one.sendall(LOOK + LOOK[:10])
-        same(read_line(one), SEEN)
+        asks(one, LOOK[10:], SEEN)
+        asks(one, LOOK + LOOK[:10], SEEN)
         assert is_silent(one), "half a line is answered"
         one.sendall(LOOK[10:] + BYE)
         same(read_all(one), SEEN + PARTED)
