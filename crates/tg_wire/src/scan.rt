@@ -104,7 +104,8 @@ fn is_space(byte: u8) -> bool
     byte == b' ' || byte == b'\t' || byte == b'\n' || byte == b'\r'
 }
 
-/// The first quote, backslash or control byte from a place on, 64 bytes at a time while there are as many, and then 16.
+/// The first quote, backslash or control byte from a place on, 64 bytes at a time while there are as many, then 16, and
+/// then 8.
 // If inlined, the loop would also count up, at each byte, what the caller computes from the place.
 #[inline(never)]
 pub(crate) fn plain_end(bytes: &[u8], from: usize) -> usize
@@ -122,7 +123,14 @@ pub(crate) fn plain_end(bytes: &[u8], from: usize) -> usize
         }
         at += 16;
     }
-    plain_end_slowly(bytes, at)
+    if bytes.len() - at < 8 {
+        return plain_end_slowly(bytes, at);
+    }
+    let found = stops_among_eight(u8x8::from_slice(&bytes[at..]));
+    if found != 0 {
+        return at + found.trailing_zeros() as usize;
+    }
+    plain_end_slowly(bytes, at + 8)
 }
 
 /// A bit for each byte at which the plain text of a string stops, the lowest for the first byte.
@@ -133,6 +141,16 @@ fn stops(bytes: u8x16) -> u64
     (bytes.simd_eq(u8x16::splat(b'"'))
         | bytes.simd_eq(u8x16::splat(b'\\'))
         | bytes.simd_lt(u8x16::splat(b' '))).to_bitmask()
+}
+
+/// The same for eight bytes.
+#[inline(always)]
+fn stops_among_eight(bytes: u8x8) -> u64
+    ensures { result ≡ mask_l (map is_stop bytes) }
+{
+    (bytes.simd_eq(u8x8::splat(b'"'))
+        | bytes.simd_eq(u8x8::splat(b'\\'))
+        | bytes.simd_lt(u8x8::splat(b' '))).to_bitmask()
 }
 
 /// Whether the plain text of a string stops at one of the bytes, or one is perhaps not ASCII.
