@@ -188,8 +188,12 @@ fn read_digits(bytes: &[u8], from: usize) -> Option<(u64, usize)>
     ensures value { IfSome result (λ r. digits_value 10 (front (drop from bytes.now)) ≡ r.0) }
     ensures small { IfSome result (λ r. r.0 < 2 ^ 64) }
 {
-    let mut at = from;
-    let mut number: u64 = 0;
+    if from >= bytes.len() || !bytes[from].is_ascii_digit() {
+        return Some((0, from));
+    }
+    // The first digit needs no look whether there is room for it.
+    let mut number = u64::from(bytes[from] - b'0');
+    let mut at = from + 1;
     while at < bytes.len() && bytes[at].is_ascii_digit() {
         if number > MOST_BEFORE_A_DIGIT {
             return None;
