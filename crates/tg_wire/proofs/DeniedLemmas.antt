@@ -1,4 +1,4 @@
--- The line of a denial for rights that are missing.
+-- The line of a denial.
 use Rattle.std.proofs.Common.{◌≡◌, ◌++◌, ◌∷◌, [], refl, sym, ap, ◌∙◌, List, ℕ, append_assoc}
 use Rattle.std.specs.Prelude.{codes}
 use Rattle.json.specs.Print.{escape, escape_byte, quoted}
@@ -37,3 +37,31 @@ pub missing_line : (word from letters to : List ℕ) → escape word ≡ word
     ≡ (123 ∷ (quoted (codes "denied") ++ 58 ∷ (quoted word ++ after_word from letters to))) ++ 10 ∷ []
 missing_line word from letters to plain =
     flat word from letters to ∙ ap (λ w. (123 ∷ (quoted (codes "denied") ++ 58 ∷ 34 ∷ ((w ++ 34 ∷ []) ++ after_word from letters to))) ++ 10 ∷ []) (sym plain)
+
+flat_for : (why word : List ℕ) → codes "{\"cause\":\"" ++ (why ++ (codes "\",\"denied\":\"" ++ (word ++ codes "\"}\n")))
+    ≡ (123 ∷ (quoted (codes "cause") ++ 58 ∷ 34 ∷ ((why ++ 34 ∷ []) ++ 44 ∷ (quoted (codes "denied") ++ 58 ∷ 34 ∷ ((word ++ 34 ∷ []) ++ 125 ∷ []))))) ++ 10 ∷ []
+unfolding numbers_on_literals
+flat_for why word = simp append_assoc
+
+-- the parts of the line of a denial for a cause with no field but its word
+pub cause_line : (why word : List ℕ) → escape why ≡ why → escape word ≡ word
+    → codes "{\"cause\":\"" ++ (why ++ (codes "\",\"denied\":\"" ++ (word ++ codes "\"}\n")))
+    ≡ (123 ∷ (quoted (codes "cause") ++ 58 ∷ (quoted why ++ 44 ∷ (quoted (codes "denied") ++ 58 ∷ (quoted word ++ 125 ∷ []))))) ++ 10 ∷ []
+cause_line why word plain_why plain =
+    flat_for why word
+    ∙ ap (λ w. (123 ∷ (quoted (codes "cause") ++ 58 ∷ 34 ∷ ((w ++ 34 ∷ []) ++ 44 ∷ (quoted (codes "denied") ++ 58 ∷ 34 ∷ ((word ++ 34 ∷ []) ++ 125 ∷ []))))) ++ 10 ∷ []) (sym plain_why)
+    ∙ ap (λ w. (123 ∷ (quoted (codes "cause") ++ 58 ∷ (quoted why ++ 44 ∷ (quoted (codes "denied") ++ 58 ∷ 34 ∷ ((w ++ 34 ∷ []) ++ 125 ∷ []))))) ++ 10 ∷ []) (sym plain)
+
+flat_at : (why word vertex : List ℕ) → codes "{\"cause\":\"" ++ (why ++ (codes "\",\"denied\":\"" ++ (word ++ (codes "\",\"vertex\":" ++ (vertex ++ codes "}\n")))))
+    ≡ (123 ∷ (quoted (codes "cause") ++ 58 ∷ 34 ∷ ((why ++ 34 ∷ []) ++ 44 ∷ (quoted (codes "denied") ++ 58 ∷ 34 ∷ ((word ++ 34 ∷ []) ++ 44 ∷ (quoted (codes "vertex") ++ 58 ∷ (vertex ++ 125 ∷ []))))))) ++ 10 ∷ []
+unfolding numbers_on_literals
+flat_at why word vertex = simp append_assoc
+
+-- the same for a cause with a vertex
+pub vertex_line : (why word vertex : List ℕ) → escape why ≡ why → escape word ≡ word
+    → codes "{\"cause\":\"" ++ (why ++ (codes "\",\"denied\":\"" ++ (word ++ (codes "\",\"vertex\":" ++ (vertex ++ codes "}\n")))))
+    ≡ (123 ∷ (quoted (codes "cause") ++ 58 ∷ (quoted why ++ 44 ∷ (quoted (codes "denied") ++ 58 ∷ (quoted word ++ 44 ∷ (quoted (codes "vertex") ++ 58 ∷ (vertex ++ 125 ∷ []))))))) ++ 10 ∷ []
+vertex_line why word vertex plain_why plain =
+    flat_at why word vertex
+    ∙ ap (λ w. (123 ∷ (quoted (codes "cause") ++ 58 ∷ 34 ∷ ((w ++ 34 ∷ []) ++ 44 ∷ (quoted (codes "denied") ++ 58 ∷ 34 ∷ ((word ++ 34 ∷ []) ++ 44 ∷ (quoted (codes "vertex") ++ 58 ∷ (vertex ++ 125 ∷ []))))))) ++ 10 ∷ []) (sym plain_why)
+    ∙ ap (λ w. (123 ∷ (quoted (codes "cause") ++ 58 ∷ (quoted why ++ 44 ∷ (quoted (codes "denied") ++ 58 ∷ 34 ∷ ((w ++ 34 ∷ []) ++ 44 ∷ (quoted (codes "vertex") ++ 58 ∷ (vertex ++ 125 ∷ []))))))) ++ 10 ∷ []) (sym plain)

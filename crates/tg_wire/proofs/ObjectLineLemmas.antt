@@ -104,7 +104,3 @@ said_as (Err fault) new front same is = tt
 -- what a writer of JSON prints for one text
 pub text_told : (lead s : List ℕ) (ts : List Token) → ts ≡ token.string s ∷ [] → lead ++ print ts ≡ lead ++ quoted s
 text_told lead s ts is = ap (λ l. lead ++ print l) is ∙ ap (λ l. lead ++ l) (print-outline (string s))
-
-pub three_in_a_row : (front a x b y c z : List ℕ)
-    → (((front ++ (a ++ x)) ++ (b ++ y)) ++ (c ++ z)) ++ 125 ∷ 10 ∷ [] ≡ front ++ ((a ++ (x ++ (b ++ (y ++ (c ++ (z ++ 125 ∷ [])))))) ++ 10 ∷ [])
-three_in_a_row front a x b y c z = simp append_assoc

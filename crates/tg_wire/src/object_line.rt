@@ -8,7 +8,7 @@ ghost use Rattle.serde_json.specs.Written.{compact_text, members_text};
 ghost use Rattle.tg_rights.specs.Promise.Written.{rights_text};
 ghost use Rattle.tg_wire.specs.Promise.Faults.{line_text};
 ghost use Rattle.tg_wire.specs.Inner.LastLine.{line_in};
-ghost use Rattle.tg_wire.specs.Inner.Told.{byte_if, field_of, led_text, leads_text, told_data, told_members};
+ghost use Rattle.tg_wire.specs.Inner.Told.{byte_if, led_text, told_data, told_members};
 
 use crate::before::{bytes_before, number_before};
 use crate::edges::put_edges;
@@ -138,38 +138,12 @@ pub(crate) fn put_last_number(line: &mut LastLine, lead: &[u8], number: u64)
     line.put_start(end, lead);
 }
 
-/// The line of an object of three fields: the bytes before each value, and the value. It ends with a line feed.
-#[inline(always)]
-#[tactic(auto, using(crate::proofs::ObjectLineLemmas::three_in_a_row))]
-pub(crate) fn put_three(
-    line: &mut Vec<u8>,
-    first: (&[u8], &Told<'_>),
-    second: (&[u8], &Told<'_>),
-    third: (&[u8], &Told<'_>),
-) -> Result<(), AllocError>
-    ensures { OnOk result (line.new.items ≡ line.old.items ++ leads_text (field_of first.entry ∷ field_of second.entry ∷ field_of third.entry ∷ [])) }
-{
-    put_led(line, first.0, first.1)?;
-    put_led(line, second.0, second.1)?;
-    put_led(line, third.0, third.1)?;
-    put_end(line)
-}
-
 /// The end of an object that is a line.
 #[inline(always)]
 fn put_end(line: &mut Vec<u8>) -> Result<(), AllocError>
     ensures { OnOk result (line.new.items ≡ line.old.items ++ 125 ∷ 10 ∷ []) }
 {
     put_two(line, b'}', b'\n')
-}
-
-/// The bytes before a value, and the value.
-#[inline(always)]
-fn put_led(line: &mut Vec<u8>, lead: &[u8], told: &Told<'_>) -> Result<(), AllocError>
-    ensures { OnOk result (line.new.items ≡ line.old.items ++ (lead.now ++ compact_text (told_data told.now))) }
-{
-    line.extend_from_slice(lead)?;
-    put(line, told)
 }
 
 /// Fields, with a comma between two, and the closing brace.

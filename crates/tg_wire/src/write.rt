@@ -1,14 +1,15 @@
 //! From a reply, an answer, a cycle or a verdict to its line. The keys of a line are in rising order.
 
-ghost use Rattle.std.specs.Prelude.{◌≡◌, ◌++◌, IfOk, OnErr, OnOk, codes};
+ghost use Rattle.std.specs.Prelude.{◌≡◌, ◌≤◌, ◌++◌, IfOk, OnErr, OnOk, codes, length};
 ghost use Rattle.std.specs.Bool.{OnTrue};
 ghost use Rattle.json.specs.Print.{escape};
 ghost use Rattle.serde_json.specs.Data.{array, object, member, no_members, string, number, unsigned};
 ghost use Rattle.tg_wire.specs.Promise.Faults.{line_text, seat_fault_text as text_of_seat_fault, ask_fault_text as text_of_ask_fault};
-ghost use Rattle.tg_wire.specs.Promise.Memory.{MayAskForAnswer, MayAskForCause, MayAskForReply};
+ghost use Rattle.tg_wire.specs.Promise.Memory.{MayAskForAnswer, MayAskForReply};
 ghost use Rattle.tg_wire.specs.Promise.Replies.{edges_data, which_text as text_of_which, rule_text, denied_data, reply_line};
 ghost use Rattle.tg_wire.specs.Inner.LastLine.{line_in};
 ghost use Rattle.tg_wire.specs.Inner.Told.{led_text};
+ghost use Rattle.tg_wire.specs.declared.write.TheConstants.{LONGEST_CAUSE};
 ghost use Rattle.tg_wire.specs.Promise.Answers.{denied_step_data, noted_data, answer_line, swept_line, verdict_line};
 
 use crate::before::{bytes_before, letters_before, number_before};
@@ -16,8 +17,7 @@ use crate::edges::put_edges;
 use crate::last_line::LastLine;
 use crate::line_room::LineRoom;
 use crate::object_line::{
-    Told, object_line, put_last_number, put_led_number, put_led_text, put_led_word, put_object,
-    put_three,
+    Told, object_line, put_last_number, put_led_number, put_led_text, put_led_word,
 };
 use crate::op::command_form;
 use crate::plain::is_plain;
@@ -26,6 +26,9 @@ use tg_collect::{Note, Phase};
 use tg_graph::Verdict;
 use tg_rights::{Cause, Reply, Rights, Rule, Text, Which};
 use tg_vault::{Answer, AskFault, SeatFault, Swept};
+
+/// The most bytes of a cause's word.
+const LONGEST_CAUSE: usize = 13;
 
 /// The line of a reply, which ends with a line feed. Keys are in rising order, with no white space. `AllocError` if an
 /// allocation failed.
@@ -38,7 +41,7 @@ pub fn write_reply(alloc: Global, reply: &Reply) -> Result<Vec<u8>, AllocError>
 }
 
 /// The same, in room that is kept from line to line. `AllocError` if an allocation failed; nothing is then known of the
-/// room's line. That something is done, or made, or denied for missing rights takes no memory.
+/// room's line. That something is done, made or denied takes no memory.
 #[inline(always)]
 pub fn write_reply_in(room: &mut LineRoom, reply: &Reply) -> Result<(), AllocError>
     ensures line { OnOk result (room.new ≡ reply_line reply.now) }
@@ -63,7 +66,7 @@ fn put_reply(line: &mut LastLine, reply: &Reply) -> Result<(), AllocError>
             line.begin()?;
             return put_told_edges(&mut line.long, edges.get());
         }
-        Reply::Denied(rule, cause) => return put_denied(line, *rule, *cause),
+        Reply::Denied(rule, cause) => put_denied(line, *rule, *cause),
         Reply::Full(which) => return put_word(line, b"{\"full\":", which_text(*which)),
     }
     Ok(())
@@ -219,18 +222,14 @@ fn step_line(room: &mut LineRoom, step: u64, verdict: &str) -> Result<(), AllocE
 
 /// The line of a denial for this cause.
 #[tactic(auto, unfolding(crate::proofs::Literals::numbers_on_literals))]
-fn put_denied(line: &mut LastLine, rule: Rule, cause: Cause) -> Result<(), AllocError>
-    ensures line { OnOk result (line_in line.new ≡ line_text (denied_data rule cause)) }
-    ensures memory { OnErr result (MayAskForCause cause) }
+fn put_denied(line: &mut LastLine, rule: Rule, cause: Cause)
+    ensures { line_in line.new ≡ line_text (denied_data rule cause) }
 {
     match cause {
         Cause::Retired => put_denied_for(line, rule, "retired"),
         Cause::Empty => put_denied_for(line, rule, "empty"),
         Cause::NotDistinct => put_denied_for(line, rule, "not distinct"),
-        Cause::Missing { from, to, rights } => {
-            put_missing(line, rule, from, rights, to);
-            Ok(())
-        }
+        Cause::Missing { from, to, rights } => put_missing(line, rule, from, rights, to),
         Cause::NotDocument { vertex } => put_denied_at(line, rule, "not document", vertex),
         Cause::NotSubject { vertex } => put_denied_at(line, rule, "not subject", vertex),
         Cause::NotPrincipal => put_denied_for(line, rule, "not principal"),
@@ -255,37 +254,32 @@ fn put_missing(line: &mut LastLine, rule: Rule, from: u64, rights: Rights, to: u
 }
 
 /// The line of a denial for a cause with no field but its word.
-fn put_denied_for(line: &mut LastLine, rule: Rule, cause: &str) -> Result<(), AllocError>
-    ensures { OnOk result (line_in line.new ≡ line_text (object (member (codes "cause") (string cause.now) (member (codes "denied") (string (rule_text rule)) no_members)))) }
+fn put_denied_for(line: &mut LastLine, rule: Rule, cause: &str)
+    requires plain { escape cause.now ≡ cause.now }
+    requires short { length cause.now ≤ LONGEST_CAUSE }
+    ensures { line_in line.new ≡ line_text (object (member (codes "cause") (string cause.now) (member (codes "denied") (string (rule_text rule)) no_members))) }
 {
-    line.begin()?;
-    put_object(
-        &mut line.long,
-        &[
-            ("cause", Told::Word(cause)),
-            ("denied", Told::Word(command_form(rule).word)),
-        ],
-    )
+    let end = line.put_end(b"\"}\n");
+    let end = bytes_before(&mut line.short, end, command_form(rule).word.as_bytes());
+    let end = bytes_before(&mut line.short, end, b"\",\"denied\":\"");
+    let end = bytes_before(&mut line.short, end, cause.as_bytes());
+    line.put_start(end, b"{\"cause\":\"");
 }
 
 /// The line of a denial for a cause with a word and a vertex.
-#[tactic(auto, unfolding(crate::proofs::Literals::numbers_on_literals))]
-fn put_denied_at(
-    line: &mut LastLine,
-    rule: Rule,
-    cause: &str,
-    vertex: u64,
-) -> Result<(), AllocError>
-    ensures { OnOk result (line_in line.new ≡ line_text (object (member (codes "cause") (string cause.now) (member (codes "denied") (string (rule_text rule))
-        (member (codes "vertex") (number (unsigned vertex)) no_members))))) }
+fn put_denied_at(line: &mut LastLine, rule: Rule, cause: &str, vertex: u64)
+    requires plain { escape cause.now ≡ cause.now }
+    requires short { length cause.now ≤ LONGEST_CAUSE }
+    ensures { line_in line.new ≡ line_text (object (member (codes "cause") (string cause.now) (member (codes "denied") (string (rule_text rule))
+        (member (codes "vertex") (number (unsigned vertex)) no_members)))) }
 {
-    line.begin()?;
-    put_three(
-        &mut line.long,
-        (b"{\"cause\":", &Told::Word(cause)),
-        (b",\"denied\":", &Told::Word(command_form(rule).word)),
-        (b",\"vertex\":", &Told::Number(vertex)),
-    )
+    let end = line.put_end(b"}\n");
+    let end = number_before(&mut line.short, end, vertex);
+    let end = bytes_before(&mut line.short, end, b"\",\"vertex\":");
+    let end = bytes_before(&mut line.short, end, command_form(rule).word.as_bytes());
+    let end = bytes_before(&mut line.short, end, b"\",\"denied\":\"");
+    let end = bytes_before(&mut line.short, end, cause.as_bytes());
+    line.put_start(end, b"{\"cause\":\"");
 }
 
 /// The line of the verdict that the step of this number is denied for this cause.

@@ -24,18 +24,6 @@ told_members (f ∷ fs) = member f.0.now (told_data f.1) (told_members fs)
 abbrev pub led_text : List ℕ → Data → List ℕ
 led_text lead d = lead ++ ((compact_text d ++ 125 ∷ []) ++ 10 ∷ [])
 
--- the bytes before a value, and the value
-abbrev pub field_of : Bor (List ℕ) × Bor Told → List ℕ × Data
-field_of f = (f.0.now, told_data f.1.now)
-
-abbrev pub led_members : List (List ℕ × Data) → List ℕ
-led_members [] = 125 ∷ []
-led_members (f ∷ fs) = f.0 ++ (compact_text f.1 ++ led_members fs)
-
--- the line of an object of such fields
-abbrev pub leads_text : List (List ℕ × Data) → List ℕ
-leads_text fs = led_members fs ++ 10 ∷ []
-
 -- a byte, if it is shown
 abbrev pub byte_if : Bool → ℕ → List ℕ
 byte_if shown byte = if shown then byte ∷ [] else []
