@@ -330,10 +330,12 @@ def check_system_texts(what: str, tried: Servers) -> None:
 def workers_memory_refused(_: Path, tried: Servers) -> None:
     """One allocation of a worker fails. Each of the two workers makes three that are no part of its
     talk: the buffers of lines and of answers, before it, and the list of what connections left,
-    after it."""
+    after it. Without that list the first worker closes the door, and then it depends on who is
+    quicker whether the second client is let in."""
     outside = [place for place, one in enumerate(tried) if one.end == NOT_SETTLED]
     what = "no server settles of which a worker is refused its buffers or its list"
-    same([tried[place].told == HEARD for place in outside], [False, False, True] * 2, what)
+    heard = [tried[place].told == HEARD for place in outside]
+    same(heard[:2] + heard[3:], [False, False, False, False, True], what)
     list_of_first, end = outside[2], len(tried) - 1
     what = "the first two and the last growth of each worker"
     same(outside, [0, 1, list_of_first, list_of_first + 1, list_of_first + 2, end], what)
