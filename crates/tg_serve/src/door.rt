@@ -151,8 +151,8 @@ fn rest_since<R: Clock>(rt: &R, start: u64) {
     }
 }
 
-/// Whether a call ended only because it had waited for a tick, or for as long as it may.
-pub fn is_tick(error: &io::Error) -> bool {
+/// Whether a call ended only because it had waited for a tick.
+pub(crate) fn is_tick(error: &io::Error) -> bool {
     matches!(error.kind(), ErrorKind::WouldBlock | ErrorKind::TimedOut)
 }
 

@@ -27,7 +27,6 @@ mod waiting;
 
 pub use attending::attend;
 pub use desk::{Departure, Desk, Notice};
-pub use door::is_tick;
 pub use laws::servers_have_meanings;
 pub use listening::{serve_lines, serve_lines_operated};
 pub use operating::Operating;

@@ -12,7 +12,6 @@ use std::rt::Clock;
 use std::sync::Wait;
 use std::time::Duration;
 use std::{io, thread};
-use tg_serve::is_tick;
 use tg_talk::Steady;
 
 /// The line that asks for the status.
@@ -77,7 +76,7 @@ fn answer_or_say<N: Net + Eprint>(
 ) -> Option<Vec<u8>> {
     match answer_of(rt, alloc, path, line) {
         Ok(answer) => Some(answer),
-        Err(error) if is_tick(&error) => {
+        Err(error) if is_late(&error) => {
             let _ = eprintln!(rt; "tgdoc: {path}: no answer within {PATIENCE} seconds");
             None
         }
@@ -86,6 +85,11 @@ fn answer_or_say<N: Net + Eprint>(
             None
         }
     }
+}
+
+/// Whether a call failed since it was waited for too long.
+fn is_late(error: &io::Error) -> bool {
+    matches!(error.kind(), ErrorKind::WouldBlock | ErrorKind::TimedOut)
 }
 
 fn answer_of<N: Net>(rt: &N, alloc: Global, path: &str, line: &str) -> io::Result<Vec<u8>> {
