@@ -121,8 +121,8 @@ pub fn write_answer(alloc: Global, answer: &Answer) -> Result<Vec<u8>, AllocErro
     room.into_line()
 }
 
-/// The same, in room that is kept, and with the error of `write_reply_in`. All answers but those to commands, and the
-/// faults, take no memory.
+/// The same, in room that is kept, and with the error of `write_reply_in`. Of the answers that are no replies only the
+/// faults take memory.
 #[inline(always)]
 pub fn write_answer_in(room: &mut LineRoom, answer: &Answer) -> Result<(), AllocError>
     ensures line { OnOk result (room.new ≡ answer_line answer.now) }

@@ -1,4 +1,4 @@
--- Which lines take memory when they are written.
+-- Which lines may need memory when they are written: so these alone can fail for want of it.
 use Rattle.std.specs.Prelude.{⊤}
 use Rattle.tg_rights.specs.declared.outcome.Reply.{Reply}
 use Rattle.tg_rights.specs.declared.outcome.Reply.TheVariants as reply
