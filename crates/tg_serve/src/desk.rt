@@ -67,6 +67,8 @@ pub(crate) struct Counts {
     pub(crate) freed: AtomicU64,
     /// Bytes that the history and the logs take, as they are counted for `--memory`.
     pub(crate) bytes: AtomicU64,
+    /// The same of the earlier rounds whose histories are kept and not yet written.
+    pub(crate) unwritten: AtomicU64,
 }
 
 /// What happened on a server.
@@ -99,6 +101,14 @@ pub struct Departure {
     pub seconds: u64,
 }
 
+/// The history of a round that was settled.
+#[derive(Drop)]
+pub struct History {
+    pub entries: Vec<Entry>,
+    /// How many bytes the round took, as they are counted for `--memory`.
+    pub bytes: u64,
+}
+
 /// Where a server leaves what its control socket, its log and its history take, and finds what it is asked. Nobody at
 /// the desk makes the server wait for more than a few instructions.
 #[derive(Drop)]
@@ -118,7 +128,7 @@ pub struct Desk {
     notices: Mutex<Vec<Notice>>,
     /// Notices that were lost.
     lost: AtomicU64,
-    histories: Mutex<Vec<Vec<Entry>>>,
+    histories: Mutex<Vec<History>>,
     /// Whether a history was lost for lack of memory.
     lacks_history: AtomicBool,
 }
@@ -145,6 +155,7 @@ impl Counts {
             cycles: none_yet(),
             freed: none_yet(),
             bytes: none_yet(),
+            unwritten: none_yet(),
         }
     }
 }
@@ -227,10 +238,17 @@ impl Desk {
         (taken, self.lost.swap(0, Ordering::SeqCst))
     }
 
-    /// Takes the histories of the rounds that were settled.
-    pub fn take_histories<R: Wait>(&self, rt: &R, alloc: Global) -> Vec<Vec<Entry>> {
+    /// Takes the histories of the rounds that were settled, each of which is to be given to `drop_history` in the end.
+    pub fn take_histories<R: Wait>(&self, rt: &R, alloc: Global) -> Vec<History> {
         let mut histories = self.histories.lock(rt);
         std::mem::replace(&mut *histories, Vec::new(alloc))
+    }
+
+    /// Drops a history that was taken, once it is written or given up: until then it may keep the next round waiting.
+    pub fn drop_history(&self, history: History) {
+        let bytes = history.bytes;
+        drop(history);
+        self.counts.unwritten.fetch_sub(bytes, Ordering::SeqCst);
     }
 
     /// Whether the history of a round was lost for lack of memory.
@@ -366,9 +384,13 @@ impl Desk {
         self.counts.entries.fetch_add(1, Ordering::SeqCst);
     }
 
-    /// Notes how much room there is, and how many bytes the history and the logs take.
-    pub(crate) fn look(&self, room: Room, bytes: u64) {
+    /// Notes how many bytes the history and the logs take.
+    pub(crate) fn note_bytes(&self, bytes: u64) {
         self.counts.bytes.store(bytes, Ordering::SeqCst);
+    }
+
+    /// Notes how much room there is.
+    pub(crate) fn look(&self, room: Room) {
         self.counts.slots.store(room.slots, Ordering::SeqCst);
         self.counts
             .free_slots
@@ -410,13 +432,22 @@ impl Desk {
         );
     }
 
-    /// Keeps the history of a round that was settled until it is taken. Once one is lost for want of memory no further
-    /// one is kept, so that those that are taken have no gap.
-    pub(crate) fn keep_history<R: Wait>(&self, rt: &R, history: Vec<Entry>) {
+    /// Keeps the history of the round that was settled last until it is taken. Once one is lost for want of memory no
+    /// further one is kept, so that those that are taken have no gap.
+    pub(crate) fn keep_history<R: Wait>(&self, rt: &R, entries: Vec<Entry>) {
+        let bytes = self.counts.bytes.load(Ordering::SeqCst);
         let mut histories = self.histories.lock(rt);
-        if self.lacks_history() || histories.push(history).is_err() {
+        if self.lacks_history() || histories.push(History { entries, bytes }).is_err() {
             self.lacks_history.store(true, Ordering::SeqCst);
+        } else {
+            self.counts.unwritten.fetch_add(bytes, Ordering::SeqCst);
         }
+    }
+
+    /// Whether the histories that are not yet written take more than this, and more than the last round did.
+    pub(crate) fn keeps_more_than(&self, bytes: u64) -> bool {
+        let last = self.counts.bytes.load(Ordering::SeqCst);
+        self.counts.unwritten.load(Ordering::SeqCst) > bytes.max(last)
     }
 
     /// Who is served by each worker, if anybody is.

@@ -26,7 +26,7 @@ mod tests;
 mod waiting;
 
 pub use attending::attend;
-pub use desk::{Departure, Desk, Notice};
+pub use desk::{Departure, Desk, History, Notice};
 pub use laws::servers_have_meanings;
 pub use listening::{serve_lines, serve_lines_operated};
 pub use operating::Operating;

@@ -19,11 +19,16 @@ use std::net::TcpListener;
 use std::rt::Clock;
 use std::sync::ledger::Blank;
 use std::sync::{Mutex, Wait};
+use std::thread;
 use std::thread::Threads;
+use std::time::Duration;
 use tg_graph::Graph;
 use tg_share::PARTS;
 use tg_talk::Watched;
 use tg_vault::{Entry, Past, Rebased, Vault};
+
+/// How long to rest before looking again whether histories are written, in milliseconds.
+const REST: u64 = 20;
 
 /// Serves this many connections in rounds of `round`, as `serve_operated` does, without bounds: a client may keep the
 /// server waiting for ever, and a round may take all memory.
@@ -79,6 +84,9 @@ pub fn serve_on<R: Threads + Wait + Clock + Sync, W: Write>(
 /// Once the history and the logs of a round take as much memory as they may, its talks end as at the end of their
 /// clients' lines, it takes no further connection, and it is settled. The next round follows, if the connections are
 /// served in more than one, or without an end; otherwise the server ends.
+///
+/// If it leaves histories at the desk, the next round waits while those that are not yet written take more memory than
+/// a round may, unless there is only that of the last round, or the server is asked to stop.
 ///
 /// If the server is attended, it ends with this round once it is asked to stop at the desk, and goes on with the next
 /// one if a round is to end: nobody is let in any more, and after the time that was named with the request each talk
@@ -223,8 +231,23 @@ fn serve_rounds<R: Threads + Wait + Clock + Sync, W: Write>(
             logs,
         });
         number = next;
+        await_writing(service);
     }
     unreachable!()
+}
+
+/// Waits while the histories that are not yet written take more memory than a round may: otherwise a disk that does not
+/// answer would make the server take all memory. A server that is asked to stop goes on.
+fn await_writing<R: Wait + Clock>(service: &Service<'_, R>) {
+    let Some(most) = service.operating.memory else {
+        return;
+    };
+    for _ in service.rt.forever() {
+        if !service.desk.keeps_more_than(most) || service.desk.is_stopping() {
+            return;
+        }
+        thread::sleep(service.rt, Duration::from_millis(REST));
+    }
 }
 
 /// How many connections a round may take.

@@ -171,6 +171,7 @@ fn serve_in_threads<L: Ledger + Send + Sync, R: Threads + Wait + Clock + Sync>(
                 None => is_short = true,
             }
         }
+        round.desk.note_bytes(round.budget.bytes());
         over.store(true, Ordering::SeqCst);
         if is_short { None } else { Some(all) }
     })
@@ -198,7 +199,8 @@ fn collect_until<L: Ledger, R: Wait + Clock>(round: &Round<'_, L, R>, is_over: &
 /// Tells the desk what is to be known of the vault, and does what was asked there.
 fn attend_to<L: Ledger, R: Wait + Clock>(round: &Round<'_, L, R>, room: Room, worked: Worked) {
     let desk = round.desk;
-    desk.look(room, round.budget.bytes());
+    desk.look(room);
+    desk.note_bytes(round.budget.bytes());
     desk.note_work(worked);
     if round.operating.is_attended {
         desk.advance(round.rt);

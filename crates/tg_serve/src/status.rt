@@ -115,8 +115,9 @@ fn write_counts(line: &mut String, desk: &Desk) -> Result<(), AllocError> {
     };
     write!(
         line,
-        "\"bytes\":{},\"course\":\"{course}\"}}\n",
-        number(&counts.bytes)
+        "\"bytes\":{},\"unwritten\":{},\"course\":\"{course}\"}}\n",
+        number(&counts.bytes),
+        number(&counts.unwritten)
     )?;
     Ok(())
 }

@@ -104,7 +104,8 @@ pub(crate) fn keep_history<N: Wait + Clock, H: Files + Eprint>(
     for _ in rt.forever() {
         let is_last = desk.has_ended();
         for history in desk.take_histories(rt, alloc) {
-            is_whole = is_whole && append_or_say(host, alloc, path, &history);
+            is_whole = is_whole && append_or_say(host, alloc, path, &history.entries);
+            desk.drop_history(history);
         }
         if is_whole && desk.lacks_history() {
             let _ = eprintln!(host; "tgdoc: {path}: no memory for the history of a round");

@@ -180,9 +180,10 @@ fn table_of(alloc: Global, status: &Value) -> Result<String, AllocError> {
     write_bar(&mut table, status, "cells")?;
     write!(
         table,
-        "entries {}   bytes {}   refused {}   denied {}   full {}\n",
+        "entries {}   bytes {}   unwritten {}   refused {}   denied {}   full {}\n",
         number(status, "entries"),
         number(status, "bytes"),
+        number(status, "unwritten"),
         number_at(status, "answers", "refused"),
         number_at(status, "answers", "denied"),
         number_at(status, "answers", "full")

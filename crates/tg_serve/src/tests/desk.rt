@@ -85,6 +85,7 @@ fn growth_refused_in_a_request(rt: HostRuntime) {
 #[test]
 fn growth_refused_in_kept_histories(rt: HostRuntime) {
     let desk = Desk::unattended(rt.alloc());
+    desk.note_bytes(640);
     desk.keep_history(&rt, Vec::new(rt.alloc()));
     let mut kept = 1;
     if desk.lacks_history() {
@@ -93,6 +94,24 @@ fn growth_refused_in_kept_histories(rt: HostRuntime) {
         kept = 0;
     }
     assert!(rt; desk.take_histories(&rt, rt.alloc()).len() == kept);
+}
+
+/// What is not yet written keeps the next round waiting if it takes more than one may, unless there is only the history
+/// of the last round.
+#[test]
+fn unwritten_histories_are_counted(rt: HostRuntime) {
+    let desk = Desk::unattended(rt.alloc());
+    desk.note_bytes(640);
+    desk.keep_history(&rt, Vec::new(rt.alloc()));
+    assert!(rt; !desk.keeps_more_than(320));
+    desk.note_bytes(320);
+    desk.keep_history(&rt, Vec::new(rt.alloc()));
+    assert!(rt; desk.keeps_more_than(959) && !desk.keeps_more_than(960));
+    for history in desk.take_histories(&rt, rt.alloc()) {
+        desk.drop_history(history);
+    }
+    desk.note_bytes(0);
+    assert!(rt; !desk.keeps_more_than(0));
 }
 
 /// Lines that are read without memory or, if nothing is said of them, left to be read with it.
