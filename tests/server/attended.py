@@ -602,6 +602,37 @@ def history_without_room(program: Path) -> None:
             same(server.said().count(bytes(path)), 1)
 
 
+def history_that_waits(program: Path) -> None:
+    """While histories cannot be written and take more than a round may, nobody is served. All are
+    written once they can be."""
+    with tempfile.TemporaryDirectory() as folder:
+        path = Path(folder) / "steps"
+        os.mkfifo(path)
+        words = ("--round", "1", "--memory", "100k", "--history", str(path))
+        with open(os.open(path, os.O_RDONLY | os.O_NONBLOCK), "rb", buffering=0) as pipe:
+            fcntl.fcntl(pipe, fcntl.F_SETPIPE_SZ, 4096)
+            written = bytearray()
+
+            def are_written(steps: int) -> bool:
+                written.extend(pipe.read() or b"")
+                return written.count(b"\n") == steps
+
+            with attended(program, *words, config=LARGE) as server:
+                for number in range(1, 5):
+                    server.exchange(HELLO + 100 * CREATE + BYE)
+                    kept = 100 * 320 * number
+                    until("it waits", lambda: server.status()["unwritten"] == kept)
+                with server.connection() as late:
+                    late.sendall(HELLO + BYE)
+                    assert is_silent(late, 1.0), "served though histories wait"
+                    until("all is written", lambda: are_written(400))
+                    same(read_all(late), WELCOME + PARTED)
+                same(server.status()["unwritten"], 0)
+                server.stop(in_rounds(100, 100, 100, 100, 0))
+    model = Graph(read_config(LARGE.rstrip()))
+    same(carried_out(model, [read_step(line) for line in written.splitlines()]), 400)
+
+
 def output_that_nobody_reads(program: Path) -> None:
     """A server whose output nobody reads waits between two rounds once the pipe is full, though it
     hears of a stop, and goes on as soon as somebody reads."""
@@ -869,7 +900,7 @@ def tests() -> Tests:
     yield from named(stopped_by_a_signal_at_the_control_socket)
     yield from named(end_while_no_answer_is_taken_at_the_control_socket, log_tells)
     yield from named(log_that_cannot_be_written, history_replays, history_that_cannot_be_written)
-    yield from named(history_without_room, output_that_nobody_reads)
+    yield from named(history_without_room, history_that_waits, output_that_nobody_reads)
     yield from named(no_server_without_an_end_or_a_socket, control_subcommand)
     yield from named(control_without_an_answer, control_that_is_suspended, exporter_answers)
     yield from named(watching_ends_with_an_error, memory_refused_to_the_control_subcommand)
