@@ -25,13 +25,17 @@ class Names:
             self.retired[serial] = name
             del self.principals[name]
 
-    def give(self, word, serial):
-        """Gives a vertex a name, in place of one that it has."""
+    def check(self, word):
+        """Refuses a word that cannot be given to a vertex as its name."""
         if not WORD.fullmatch(word) or word in COMMANDS:
             what = "a name has letters and digits, begins with a letter, and is no command"
             raise Confused(f"{word}: {what}")
         if word in self.principals:
             raise Confused(f"{word} is a principal's name")
+
+    def give(self, word, serial):
+        """Gives a vertex a name, in place of one that it has."""
+        self.check(word)
         self.given = {name: owner for name, owner in self.given.items() if owner != serial}
         self.given[word] = serial
 

@@ -88,6 +88,8 @@ class Session:
             raise Confused("Nobody sits here: `as NAME` first.")
         person, actor = self.now, self.now.actor()
         fields = fields_of(verb, given, self.names, actor)
+        if verb == "create" and len(given) > 2:
+            self.names.check(given[2])
         answer = self.sent(person.client, fields)
         if self.vault.record:
             self.vault.record.add(person.seat, fields, answer)
