@@ -40,10 +40,14 @@ def shared(rows, start, rights, end):
     told = asked(rows, "share", *question, "--steps")
     steps = [json.loads(row) for row in told]
     if steps and "op" not in steps[0]:
-        why = steps[0]
-        words = [str(why[key]) for key in ("error", "vertex") if key in why]
-        return [], why.get("verdict") or " ".join(words)
+        return [], reason_in(steps[0])
     return steps, None
+
+
+def reason_in(told):
+    """The word of an answer that has neither steps nor a list."""
+    words = [str(told[key]) for key in ("error", "vertex") if key in told]
+    return told.get("verdict") or " ".join(words)
 
 
 def who(rows, rights, end):
@@ -60,6 +64,8 @@ def who(rows, rights, end):
 
 
 def could(rows, rights, end):
-    """Which vertices could come to have the rights."""
-    told = asked(rows, "share", "--to", str(end), "--rights", rights)
-    return {serial for serial, _ in json.loads(told[0]).get("could", [])}
+    """Which vertices could come to have the rights; a ValueError if that is not known."""
+    told = json.loads(asked(rows, "share", "--to", str(end), "--rights", rights)[0])
+    if "could" not in told:
+        raise ValueError(f"Not known: {reason_in(told)}.")
+    return {serial for serial, _ in told["could"]}
