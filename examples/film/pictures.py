@@ -87,7 +87,7 @@ class Reader:
 
 
 def number(word):
-    if not word.isdigit():
+    if not word.isdecimal():
         raise ValueError("%s is no number" % word)
     return int(word)
 

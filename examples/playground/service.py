@@ -151,7 +151,7 @@ class Service(BaseHTTPRequestHandler):
         if not self.is_ours() or self.headers.get("Content-Type") != "application/json":
             raise Unasked(403, "not from here")
         length = self.headers.get("Content-Length", "")
-        if not length.isdigit() or int(length) > MOST_BYTES:
+        if not length.isdecimal() or int(length) > MOST_BYTES:
             raise Unasked(413, f"at most {MOST_BYTES} bytes")
         asked = json.loads(self.rfile.read(int(length)))
         if self.path not in self.answers or not isinstance(asked, dict):

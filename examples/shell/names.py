@@ -40,7 +40,7 @@ class Names:
         self.given[word] = serial
 
     def serial_of(self, word):
-        if word.isdigit():
+        if word.isdecimal():
             return int(word)
         found = self.principals.get(word, self.given.get(word))
         if found is None:
@@ -60,7 +60,7 @@ class Names:
     def both(self, serial):
         """What a vertex is called, with its serial."""
         name = self.of(serial)
-        return name if name[:1].isdigit() else f"{name} ({serial})"
+        return name if name[:1].isdecimal() else f"{name} ({serial})"
 
     def all(self):
         return [*self.principals, *self.given]

@@ -125,11 +125,11 @@ class Session:
 
     def sit(self, word):
         """Goes on as a principal: on the connection that there is, or on a new one."""
-        known = int(word) if word.isdigit() else self.names.principals.get(word)
+        known = int(word) if word.isdecimal() else self.names.principals.get(word)
         if known in self.people:
             self.now = self.people[known]
             return
-        if word.isdigit():
+        if word.isdecimal():
             raise Confused("A principal is named by name: as NAME")
         client = Client(*self.vault.address)
         answer = self.sent(client, {"op": "hello", "name": word})
