@@ -63,8 +63,19 @@ fn ask_once<N: Net + Print + Eprint>(rt: &N, alloc: Global, path: &str, line: &s
     let Some(answer) = answer_or_say(rt, alloc, path, line) else {
         return false;
     };
-    let was_told = rt.write_all(&answer).is_ok();
+    let was_told = print_or_say(rt, &answer);
     was_told && !answer.starts_with(b"{\"error\"")
+}
+
+/// Prints an answer or a table; returns whether that was done. If not, standard error says why.
+fn print_or_say<N: Print + Eprint>(rt: &N, text: &[u8]) -> bool {
+    match rt.write_all(text) {
+        Ok(()) => true,
+        Err(error) => {
+            let _ = eprintln!(rt; "tgdoc: standard output: {error}");
+            false
+        }
+    }
 }
 
 /// The line that the server answers. If there is none, standard error says why.
@@ -146,14 +157,14 @@ fn draw_status<N: Net + Print + Eprint>(rt: &N, alloc: Global, path: &str) -> bo
         Err(_) => None,
     };
     let Some(status) = status else {
-        let _ = rt.write_all(&answer);
+        let _ = print_or_say(rt, &answer);
         return false;
     };
     let Ok(table) = table_of(alloc, &status) else {
         say_no_memory(rt);
         return false;
     };
-    rt.write_all(table.as_bytes()).is_ok()
+    print_or_say(rt, table.as_bytes())
 }
 
 /// The number of this key; 0 if there is none.
