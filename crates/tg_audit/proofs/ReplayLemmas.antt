@@ -134,7 +134,7 @@ pub record IsReplayed (v : Contents) (G : Protection) (number : ℕ) : Type 0 wh
 pub replayed_none : (v : Contents) (G : Protection) → G ≡ v.opening → IsGraph v.opening → Legal v.limits v.opening v.history (graph_now v) → IsReplayed v G 0
 replayed_none v G same opened legal = subst (λ F. IsReplayed v F 0) (sym same) (record {
   further = refl;
-  left = record { lawful = record { graph = opened; agents = λ seat x was. absurd was.1 }; ends = graph_now v; run = legal.graphs };
+  left = record { lawful = record { graph = opened; retired = λ x was. absurd was.1; agents = λ seat x was. absurd was.1 }; ends = graph_now v; run = legal.graphs };
 })
 
 -- the next reply is the next entry's

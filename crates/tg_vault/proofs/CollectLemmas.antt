@@ -25,7 +25,7 @@ still_acts v w same = record { came = None; target = None; acted = acted_same v.
 
 -- a vault stays tied when a principal takes a seat, or somebody leaves one
 module _ (v : Contents) (next : ℕ) (retired : List ℕ) (tied : IsTied v next retired) (seat : ℕ) where
-  pub seat_set : (o : Option ℕ) → ((y : ℕ) → o ≡ Some y → WasPrincipal (graph_now v) y) → ((x : ℕ) → IsOfSeat (moment v).world seat x → is_some o ≡ true) → IsTied (record v { seats = set v.seats seat o }) next retired
+  pub seat_set : (o : Option ℕ) → ((y : ℕ) → o ≡ Some y → WasPrincipal (graph_now v) v.history y) → ((x : ℕ) → IsOfSeat (moment v).world seat x → is_some o ≡ true) → IsTied (record v { seats = set v.seats seat o }) next retired
   seat_set o was put =
       let j = tied.joins in
       record {

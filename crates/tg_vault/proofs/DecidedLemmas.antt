@@ -25,7 +25,7 @@ use Rattle.tg_graph.proofs.RollLemmas.{member_finds, member_found}
 use Rattle.tg_collect.specs.Promise.Readings.{IsHeldIn, IsRootIn, agents, principals}
 use Rattle.tg_collect.specs.Promise.Views.{IsStore}
 use Rattle.tg_collect.proofs.RunLemmas.{held_graph}
-use Rattle.tg_vault.specs.Promise.History.{MayAsk, WasPrincipal}
+use Rattle.tg_vault.specs.Promise.History.{MayAsk, WasPrincipal, WasRetired}
 use Rattle.tg_vault.specs.Promise.World.{ExactSlots, World, acting, actor_at, at_seat}
 use Rattle.tg_vault.specs.Promise.Contents.{Contents, graph_now, held_now, moment, Ties, IsUsedUp}
 use Rattle.tg_vault.specs.Inner.CarriedOut.{Decided}
@@ -54,7 +54,7 @@ module _ (v : Contents) (j : Ties v) (store : IsStore v.store) where
   of_graph x h = ap is_some (j.part.vertices x h) ∙ h
 
   -- the roots of the store are the principals of the graph, the pending targets and the agents
-  principal_listed : (x : ℕ) → is_active (graph_now v) x ≡ true → Contains (principals v.store) x
+  pub principal_listed : (x : ℕ) → is_active (graph_now v) x ≡ true → Contains (principals v.store) x
   principal_listed x active =
       subst (λ (xs : List ℕ). Contains xs x) (sym j.principals) (is_listed v.names x (subst (λ (ms : List Member). has_serial ms x ≡ true) (sym j.names) active))
 
@@ -69,9 +69,12 @@ module _ (v : Contents) (j : Ties v) (store : IsStore v.store) where
   root_active x root =
       let m = member_found (graph_now v).names x (root_principal x root) in subst (λ (n : ℕ). has_retired (graph_now v) n ≡ false) m.2 (graph_is.roll.active m.0 m.1)
 
-  pub none_gone : (x : ℕ) → WasPrincipal (graph_now v) x → (Contains (principals v.store) x → ⊥) → has_retired (graph_now v) x ≡ true
+  now_gone : (x : ℕ) → WasRetired v.history x → has_retired (graph_now v) x ≡ true
+  now_gone = (legal_keeps v.limits v.opening v.history (graph_now v) j.opened j.vault.legal).retired
+
+  pub none_gone : (x : ℕ) → WasPrincipal (graph_now v) v.history x → (Contains (principals v.store) x → ⊥) → has_retired (graph_now v) x ≡ true
   none_gone x (inl active) none = absurd (none (principal_listed x active))
-  none_gone x (inr gone) none = gone
+  none_gone x (inr gone) none = now_gone x gone
 
   -- who acts at a seat may ask, and is a root and a subject unless it is a principal that has retired
   abbrev Acts : ℕ → ℕ → Type 0
@@ -79,9 +82,9 @@ module _ (v : Contents) (j : Ties v) (store : IsStore v.store) where
 
   pub acts_here : (seat x : ℕ) → actor_at (moment v).world seat ≡ Some x → Acts seat x
   acts_here seat x acts = by (at_seat (agents v.store) seat) refl acts where
-    sits : WasPrincipal (graph_now v) x → Acts seat x
+    sits : WasPrincipal (graph_now v) v.history x → Acts seat x
     sits (inl active) = (inl active, inl (record { root = principal_root x active; subject = active_subject (graph_now v) x graph_is active }))
-    sits (inr gone) = (inr (inl gone), inr gone)
+    sits (inr gone) = (inr (inl gone), inr (now_gone x gone))
 
     by : (a : Option ℕ) → at_seat (agents v.store) seat ≡ a → acting a (at_seat v.seats seat) ≡ Some x → Acts seat x
     by None none at = sits (j.vault.seated seat x at)

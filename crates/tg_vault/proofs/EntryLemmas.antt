@@ -237,7 +237,7 @@ module _ (v : Contents) (seat x : ℕ) (c : Command) (answer : Answered) (new : 
     legal = record { graphs = along_more v.limits [] v.opening v.history G e (graph_now left) j.vault.legal.graphs (who.0, permitted, graph_left) };
     sat = All-append (λ (e : Entry). e.seat < 64) v.history (e ∷ []) j.vault.sat (All-cons (λ (e : Entry). e.seat < 64) e [] s.within (All-nil _));
     seats = j.vault.seats;
-    seated = λ k y at. subst (λ (K : Protection). WasPrincipal K y) (sym graph_left) (was_stays G x c o y (j.vault.seated k y at));
+    seated = λ k y at. subst (λ (K : Protection). WasPrincipal K (v.history ++ e ∷ []) y) (sym graph_left) (was_stays G v.history e y (j.vault.seated k y at));
   }
 
   part_next : IsPart (next_graph G x c o) (next_graph H x c o)

@@ -5,7 +5,7 @@ use Rattle.tg_graph.specs.Promise.Fullness.{edge_count}
 use Rattle.tg_collect.specs.Promise.Readings.{agents, held, IsRootIn, pending}
 use Rattle.tg_collect.specs.Promise.Views.{IsStore}
 use Rattle.tg_vault.specs.Promise.Contents.{Contents, graph_now, held_now, moment, Ties, Fits, IsRoot}
-use Rattle.tg_vault.proofs.DecidedLemmas.{of_graph, principal_root}
+use Rattle.tg_vault.proofs.DecidedLemmas.{of_graph, principal_listed, principal_root, root_principal}
 use Rattle.tg_vault.proofs.EdgeLemmas.{edge_count_seen}
 use Rattle.tg_vault.proofs.PlaceLemmas.{seat_contains}
 
@@ -39,6 +39,7 @@ module _ (v : Contents) (j : Ties v) (s : IsStore v.store) where
         let same = j.cells in
         let counted : edge_count (held_now v) ≡ edge_count (held v.store (graph_now v).next) = edge_count_seen v.store (graph_now v).next (graph_now v).next (graph_now v).names (graph_now v).retired in
         omega arith;
+    principals = λ x. (root_principal v j s x, principal_listed v j s x);
     seats = j.vault.seats;
     targets = s.seats;
     agents = s.agents;

@@ -3,8 +3,8 @@ use Rattle.std.proofs.Common.{◌≡◌, ◌⊎◌, ℕ, List, [], ◌∷◌, �
 use Rattle.std.specs.Prelude.{Option}
 use Rattle.std.specs.Cmp.{nat_cmp_total, unsigned_tied}
 use Rattle.std.specs.FinSet as set
-use Rattle.std.proofs.lemmas.Bool.{eqb-true, or_cases, or_left, or_right}
-use Rattle.tg_lists.proofs.MembershipLemmas.{contains_append, contains_left}
+use Rattle.std.proofs.lemmas.Bool.{eq-eqb, eqb-true, or_cases, or_left, or_right}
+use Rattle.tg_lists.proofs.MembershipLemmas.{contains_append, contains_left, contains_middle}
 use Rattle.tg_rights.specs.declared.command.Command.{Command}
 use Rattle.tg_rights.specs.declared.command.Command.TheVariants as command
 use Rattle.tg_rights.specs.declared.outcome.Outcome.{Outcome}
@@ -20,7 +20,7 @@ use Rattle.tg_graph.proofs.ProtectionLemmas.{entitled}
 use Rattle.tg_graph.proofs.RollLemmas.{member_finds, member_found}
 use Rattle.tg_vault.specs.declared.entry.Entry.{Entry}
 use Rattle.tg_graph.specs.Promise.Fullness.{Limits, Permitted}
-use Rattle.tg_vault.specs.Promise.History.{Legal, MayAsk, WasAssumed, WasPrincipal, EntryStep, EntryRun, graph_of}
+use Rattle.tg_vault.specs.Promise.History.{Legal, MayAsk, WasAssumed, WasPrincipal, WasRetired, EntryStep, EntryRun, graph_of}
 use Rattle.tg_vault.proofs.RetiredLemmas.{retired_leaves}
 
 pub graph_of_more : (G : Protection) (es : List Entry) (e : Entry) → graph_of G (es ++ e ∷ []) ≡ next_graph (graph_of G es) e.actor e.command e.outcome
@@ -38,14 +38,15 @@ along_more limits earlier G (x ∷ es) H e K along turns =
 pub active_subject : (G : Protection) (x : ℕ) → IsGraph G → is_active G x ≡ true → IsSubject G x
 active_subject G x graph active = let m = member_found G.names x active in subst (IsSubject G) m.2 (graph.roll.subjects m.0 m.1)
 
--- what legal entries leave: a graph, in which whoever was assumed is a subject
+-- what legal entries leave: a graph, in which whoever retired has, and whoever was assumed is a subject
 pub record IsLawful (earlier : List Entry) (G : Protection) : Type 0 where
   pub graph : IsGraph G
+  pub retired : (x : ℕ) → WasRetired earlier x → has_retired G x ≡ true
   pub agents : (seat x : ℕ) → WasAssumed earlier seat x → IsSubject G x
 
 pub asks_subject : (earlier : List Entry) (G : Protection) (seat x : ℕ) → IsLawful earlier G → MayAsk G earlier seat x → IsSubject G x ⊎ (has_retired G x ≡ true)
 asks_subject earlier G seat x l (inl active) = inl (active_subject G x l.graph active)
-asks_subject earlier G seat x l (inr (inl gone)) = inr gone
+asks_subject earlier G seat x l (inr (inl gone)) = inr (l.retired x gone)
 asks_subject earlier G seat x l (inr (inr was)) = inl (l.agents seat x was)
 
 module _ (limits : Limits) (earlier : List Entry) (G : Protection) (seat x : ℕ) (c : Command) (l : IsLawful earlier G) where
@@ -66,11 +67,39 @@ module _ (limits : Limits) (earlier : List Entry) (G : Protection) (seat x : ℕ
       let may = subst (λ (p : Command × Outcome). Permitted limits G x p.0 p.1) (λ i. (is i, allowed i)) permitted in
       (entitled G (λ _. Unit {0}) (λ v z k e. tt) x tt (command.Assume y) may.0).1
 
+-- whoever has retired stays so, and whoever retires has retired then
+done_gone : (G : Protection) (x : ℕ) (d : Does) (y : ℕ) → has_retired G y ≡ true → has_retired (done G x d) y ≡ true
+done_gone G x (effect.Rewrites over text) y gone = by (vertex G over) where
+  by : (o : Option Vertex) → has_retired (with_text G over text o) y ≡ true
+  by None = gone
+  by (Some e) = gone
+done_gone G x effect.Retires y gone = set.contains-insert nat_cmp_total G.retired x y ∙ or_right _ _ gone
+done_gone G x _ y gone = gone
+
+gone_stays : (G : Protection) (x : ℕ) (c : Command) (o : Outcome) (y : ℕ) → has_retired G y ≡ true → has_retired (next_graph G x c o) y ≡ true
+gone_stays G x c outcome.Allowed y gone = done_gone G x (terms x c).does y gone
+gone_stays G x c _ y gone = gone
+
+goes : (G : Protection) (x y : ℕ) → x ≡ y → has_retired (next_graph G x command.Retire outcome.Allowed) y ≡ true
+goes G x y same = set.contains-insert nat_cmp_total G.retired x y ∙ or_left _ _ (unsigned_tied y x ∙ eq-eqb y x (sym same))
+
 pub turn_keeps : (limits : Limits) (earlier : List Entry) (G : Protection) (e : Entry) (H : Protection) → IsLawful earlier G → EntryStep limits earlier G e H → IsLawful (earlier ++ e ∷ []) H
 turn_keeps limits earlier G e H l (asks, permitted, left) = subst (IsLawful (earlier ++ e ∷ [])) (sym left) (record {
   graph = turn_graph limits earlier G e.seat e.actor e.command l e.outcome asks permitted;
+  retired = gone;
   agents = λ seat x was. turn_subject limits earlier G e.seat e.actor e.command l e.outcome x (subject seat x was);
 }) where
+  gone : (x : ℕ) → WasRetired (earlier ++ e ∷ []) x → has_retired (next_graph G e.actor e.command e.outcome) x ≡ true
+  gone x (d, within, by_x, retires, allowed) = elim (contains_append earlier (e ∷ []) d within) [
+    | inl before ↦ gone_stays G e.actor e.command e.outcome x (l.retired x (d, before, by_x, retires, allowed))
+    | inr new ↦ elim new [
+      | inl same ↦ subst (λ (p : Command × Outcome). has_retired (next_graph G e.actor p.0 p.1) x ≡ true)
+          (λ i. (sym (ap (λ (k : Entry). k.command) (sym same) ∙ retires) i, sym (ap (λ (k : Entry). k.outcome) (sym same) ∙ allowed) i))
+          (goes G e.actor x (ap (λ (k : Entry). k.actor) (sym same) ∙ by_x))
+      | inr never ↦ absurd never
+    ]
+  ]
+
   subject : (seat x : ℕ) → WasAssumed (earlier ++ e ∷ []) seat x → IsSubject G x
   subject seat x (d, within, at, is, allowed) = elim (contains_append earlier (e ∷ []) d within) [
     | inl before ↦ l.agents seat x (d, before, at, is, allowed)
@@ -87,7 +116,7 @@ along_keeps limits earlier G (e ∷ es) H l along =
     subst (λ (all : List Entry). IsLawful all H) (append_assoc earlier (e ∷ []) es) rest
 
 pub legal_keeps : (limits : Limits) (first : Protection) (es : List Entry) (G : Protection) → IsGraph first → Legal limits first es G → IsLawful es G
-legal_keeps limits first es G graph legal = along_keeps limits [] first es G (record { graph = graph; agents = λ seat x was. absurd was.1 }) legal.graphs
+legal_keeps limits first es G graph legal = along_keeps limits [] first es G (record { graph = graph; retired = λ x was. absurd was.1; agents = λ seat x was. absurd was.1 }) legal.graphs
 
 -- whoever a seat assumed is a subject of the history's graph
 pub assumed_subject : (limits : Limits) (first : Protection) (es : List Entry) (G : Protection) (seat x : ℕ) → IsGraph first → Legal limits first es G → WasAssumed es seat x → IsSubject G x
@@ -104,24 +133,38 @@ kept_active (m ∷ ms) x y other active = by (kept_active ms x y other) (not (m.
   by rest false gone (inl here) = let same : m.serial ≡ y = eqb-true m.serial y here in absurd (cc (gone, ap (λ n. not (n == x)) same, ap not other))
   by rest false gone (inr later) = rest later
 
--- who is or was a principal is one or was one afterwards
-done_was : (G : Protection) (x : ℕ) (d : Does) (y : ℕ) → WasPrincipal G y → WasPrincipal (done G x d) y
-done_was G x (effect.Makes k α (Some name)) y (inl active) =
+-- a principal stays one unless it retires
+done_active : (G : Protection) (x : ℕ) (d : Does) (y : ℕ) → is_active G y ≡ true → (is_active (done G x d) y ≡ true) ⊎ ((d ≡ effect.Retires) × (x ≡ y))
+done_active G x (effect.Makes k α (Some name)) y active =
     let m = member_found G.names y active in
     let new : Member = record { name = name; serial = G.next } in
     inl (member_finds (G.names ++ new ∷ []) y (m.0, contains_left G.names (new ∷ []) m.0 m.1, m.2))
-done_was G x (effect.Makes k α (Some name)) y (inr gone) = inr gone
-done_was G x (effect.Rewrites over text) y was = by (vertex G over) where
-  by : (o : Option Vertex) → WasPrincipal (with_text G over text o) y
-  by None = was
-  by (Some e) = was
-done_was G x effect.Retires y (inl active) = by (y == x) refl where
-  by : (b : Bool) → (y == x) ≡ b → WasPrincipal (done G x effect.Retires) y
-  by true same = inr (set.contains-insert nat_cmp_total G.retired x y ∙ or_left _ _ (unsigned_tied y x ∙ same))
+done_active G x (effect.Rewrites over text) y active = by (vertex G over) where
+  by : (o : Option Vertex) → (is_active (with_text G over text o) y ≡ true) ⊎ ((effect.Rewrites over text ≡ effect.Retires) × (x ≡ y))
+  by None = inl active
+  by (Some e) = inl active
+done_active G x effect.Retires y active = by (y == x) refl where
+  by : (b : Bool) → (y == x) ≡ b → (is_active (done G x effect.Retires) y ≡ true) ⊎ ((effect.Retires ≡ effect.Retires) × (x ≡ y))
+  by true same = inr (refl, sym (eqb-true y x same))
   by false other = inl (kept_active G.names x y other active)
-done_was G x effect.Retires y (inr gone) = inr (set.contains-insert nat_cmp_total G.retired x y ∙ or_right _ _ gone)
-done_was G x _ y was = was
+done_active G x _ y active = inl active
 
-pub was_stays : (G : Protection) (x : ℕ) (c : Command) (o : Outcome) (y : ℕ) → WasPrincipal G y → WasPrincipal (next_graph G x c o) y
-was_stays G x c outcome.Allowed y was = done_was G x (terms x c).does y was
-was_stays G x c _ y was = was
+retires_alone : (x : ℕ) (c : Command) → (terms x c).does ≡ effect.Retires → c ≡ command.Retire
+retires_alone x command.Retire is = refl
+retires_alone x _ is = absurd (cc is)
+
+active_turns : (G : Protection) (x : ℕ) (c : Command) (o : Outcome) (y : ℕ) → is_active G y ≡ true →
+    (is_active (next_graph G x c o) y ≡ true) ⊎ ((x ≡ y) × (c ≡ command.Retire) × (o ≡ outcome.Allowed))
+active_turns G x c outcome.Allowed y active = elim (done_active G x (terms x c).does y active) [
+  | inl still ↦ inl still
+  | inr gone ↦ inr (gone.1, retires_alone x c gone.0, refl)
+]
+active_turns G x c _ y active = inl active
+
+-- who is or was a principal is one or was one afterwards
+pub was_stays : (G : Protection) (earlier : List Entry) (e : Entry) (y : ℕ) → WasPrincipal G earlier y → WasPrincipal (next_graph G e.actor e.command e.outcome) (earlier ++ e ∷ []) y
+was_stays G earlier e y (inl active) = elim (active_turns G e.actor e.command e.outcome y active) [
+  | inl still ↦ inl still
+  | inr gone ↦ inr (e, contains_middle earlier [] e, gone.0, gone.1, gone.2)
+]
+was_stays G earlier e y (inr (d, within, by_y, retires, allowed)) = inr (d, contains_left earlier (e ∷ []) d within, by_y, retires, allowed)

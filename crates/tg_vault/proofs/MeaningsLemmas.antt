@@ -3,7 +3,7 @@ use Rattle.std.proofs.Common.{◌≡◌, ◌<◌, ◌≤◌, ℕ, ◌+◌, Bool,
 use Rattle.std.proofs.lemmas.Bool.{ltb-true, ltb-false}
 use Rattle.tg_graph.specs.Promise.EachCommand.{EachDoesSo, EachIsAllowedSo, MayUse}
 use Rattle.tg_graph.specs.Promise.Fullness.{Limits, MayBeFull}
-use Rattle.tg_graph.specs.Promise.Protection.{IsSubject, IsVertex, Live, Protection}
+use Rattle.tg_graph.specs.Promise.Protection.{IsSubject, IsVertex, Live, Protection, is_active}
 use Rattle.tg_graph.specs.Promise.Rules.{Allowed, is_create, last_serial, next_graph, reply_of}
 use Rattle.tg_graph.proofs.VertexLemmas.{IsVertex-from_kind}
 use Rattle.tg_rights.specs.declared.kind.Kind.TheVariants as kind
@@ -78,12 +78,12 @@ one_least seats a b first second = by (ltb a b) (ltb b a) refl refl where
   by false true lower other = absurd (no_lower seats b a second first (ltb-true b a other))
   by false false lower other = let over : b ≤ a = ltb-false a b lower in let under : a ≤ b = ltb-false b a other in omega (arith, over, under)
 
-asks_first : (G : Protection) (seat x : ℕ) → MayAsk G [] seat x → WasPrincipal G x
-asks_first G seat x (inl active) = inl active
-asks_first G seat x (inr (inl retired)) = inr retired
+asks_first : (G : Protection) (seat x : ℕ) → MayAsk G [] seat x → is_active G x ≡ true
+asks_first G seat x (inl active) = active
+asks_first G seat x (inr (inl retired)) = absurd retired.1
 asks_first G seat x (inr (inr assumed)) = absurd assumed.1
 
-asks_next : (G : Protection) (e : Entry) (seat x : ℕ) → (seat ≡ e.seat → ⊥) → MayAsk G (e ∷ []) seat x → WasPrincipal G x
+asks_next : (G : Protection) (e : Entry) (seat x : ℕ) → (seat ≡ e.seat → ⊥) → MayAsk G (e ∷ []) seat x → WasPrincipal G (e ∷ []) x
 asks_next G e seat x other (inl active) = inl active
 asks_next G e seat x other (inr (inl retired)) = inr retired
 asks_next G e seat x other (inr (inr assumed)) = elim assumed.1 [
@@ -97,7 +97,7 @@ actors_mean limits G e = record {
   next = λ f es H legal other.
       let asks = legal.graphs.2.1.0 in
       let here = legal.graphs.1.2 in
-      subst (λ K. WasPrincipal K f.actor) here (asks_next legal.graphs.0 e f.seat f.actor (λ same. other same) asks);
+      subst (λ K. WasPrincipal K (e ∷ []) f.actor) here (asks_next legal.graphs.0 e f.seat f.actor (λ same. other same) asks);
 }
 
 pub live_is_not_parked : LiveIsNotParked

@@ -194,7 +194,7 @@ module _ (limits : Limits) (G H : Protection) (r : IsRestriction G H (IsVertex H
 module _ (permit : RestrictionsPermit) (stay : RestrictionsStay) (reply : RestrictionsReply) (limits : Limits) where
   asks_before : (earlier : List Entry) (G H : Protection) (seat x : ℕ) → IsRestriction G H (IsVertex H) → MayAsk H earlier seat x → MayAsk G earlier seat x
   asks_before earlier G H seat x r (inl active) = inl (ap (λ (ms : List Member). has_serial ms x) r.part.names ∙ active)
-  asks_before earlier G H seat x r (inr (inl gone)) = inr (inl ((r.retired x).0 gone).1)
+  asks_before earlier G H seat x r (inr (inl gone)) = inr (inl gone)
   asks_before earlier G H seat x r (inr (inr was)) = inr (inr was)
 
   step_before : (earlier : List Entry) (G H : Protection) (seat x : ℕ) (c : Command) (o : Outcome) → IsLawful earlier G → IsLawful earlier H → (r : IsRestriction G H (IsVertex H)) → MayAsk H earlier seat x → Permitted limits H x c o →
@@ -251,7 +251,7 @@ rebased law agree permit stay reply v w c sound there = record {
   owned = by_vertices (graph_now v) (reopening w) (Live (graph_now v) (IsRoot (moment v).world)) whole
 
   at_first : (G : Protection) → IsGraph G → IsLawful [] G
-  at_first G g = record { graph = g; agents = λ seat x was. absurd was.1 }
+  at_first G g = record { graph = g; retired = λ x was. absurd was.1; agents = λ seat x was. absurd was.1 }
 
 -- of a set's elements those that are in a part of it are the part
 kept_set : (part : set.FinSet nat_cmp) (all : List ℕ) → ((x : ℕ) → set.contains part x ≡ true → set.contains (set_of all) x ≡ true) → set_of (filter (λ x. set.contains part x) all) ≡ part

@@ -1,5 +1,6 @@
 -- what a vault holds, how that fits the graph of its history, and what an answer says of the store
 use Rattle.std.specs.Prelude.{◌≡◌, ◌<◌, ℕ, ◌-◌, List, [], length, Option, Some, None, All, replicate, ◌≤◌, ◌+◌, true, ◌⊎◌, ◌≢◌, ◌↔◌, ◌∷◌, ◌++◌, slice_set}
+use Rattle.tg_lists.specs.Promise.Membership.{Contains}
 use Rattle.tg_rights.specs.declared.limits.TheConstants.{SEATS, MAX_CELLS, MAX_SLOTS}
 use Rattle.tg_graph.specs.Promise.Protection.{Protection, IsPart, Live, IsGraph, IsVertex, is_active}
 use Rattle.tg_graph.specs.declared.config.Config.{Config}
@@ -66,7 +67,7 @@ pub record IsVault (v : Contents) : Type 0 where
   pub legal : Legal v.limits v.opening v.history (graph_now v)
   pub sat : All (λ e. e.seat < SEATS) v.history
   pub seats : length v.seats ≡ SEATS
-  pub seated : (seat x : ℕ) → at_seat v.seats seat ≡ Some x → WasPrincipal (graph_now v) x
+  pub seated : (seat x : ℕ) → at_seat v.seats seat ≡ Some x → WasPrincipal (graph_now v) v.history x
 
 -- the vault of a configuration, before any event
 pub record IsFresh (c : Config) (v : Contents) : Type 0 where
@@ -120,7 +121,8 @@ pub record IsSmall (v : Contents) : Type 0 where
 -- the history is legal, and what is stored is what of its graph is still in use: each held vertex has the graph's kind,
 -- text and edges, which lead to held ones; what a root reaches is held; held and parked are apart, and vertices of the
 -- graph; free slots are those that neither has; the cells in use are at least the edges of what is held, exactly these
--- if nothing is parked, and at most those of the graph; and each seat has a place in each table
+-- if nothing is parked, and at most those of the graph; the store's principals are the graph's; and each seat has a place
+-- in each table
 pub record Fits (v : Contents) : Type 0 where
   pub legal : Legal v.limits v.opening v.history (graph_now v)
   pub part : IsPart (graph_now v) (held_now v)
@@ -131,6 +133,7 @@ pub record Fits (v : Contents) : Type 0 where
   pub few_cells : v.store.free_cells + edge_count (held_now v) ≤ v.limits.cells
   pub many_cells : v.limits.cells ≤ v.store.free_cells + edge_count (graph_now v)
   pub all_cells : ((x : ℕ) → IsParkedIn v.store x → ⊥) → v.store.free_cells + edge_count (held_now v) ≡ v.limits.cells
+  pub principals : (x : ℕ) → Contains (principals v.store) x ↔ (is_active (graph_now v) x ≡ true)
   pub seats : length v.seats ≡ SEATS
   pub targets : length (pending v.store) ≡ SEATS
   pub agents : length (agents v.store) ≡ SEATS

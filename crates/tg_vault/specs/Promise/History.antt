@@ -4,22 +4,25 @@ use Rattle.tg_lists.specs.Promise.Membership.{Contains}
 use Rattle.tg_rights.specs.declared.command.Command.TheVariants as command
 use Rattle.tg_rights.specs.declared.outcome.Outcome.TheVariants as outcome
 use Rattle.tg_graph.specs.Promise.Fullness.{Limits, Permitted}
-use Rattle.tg_graph.specs.Promise.Protection.{Protection, has_retired, is_active}
+use Rattle.tg_graph.specs.Promise.Protection.{Protection, is_active}
 use Rattle.tg_graph.specs.Promise.Rules.{next_graph}
 use Rattle.tg_vault.specs.declared.entry.Entry.{Entry}
 
--- x is a principal, or was one. In the graph that a history leaves these are the principals with which it opened, those
--- who had retired when it opened, if a rebase came before, and those whom its entries enrolled
-abbrev pub WasPrincipal : Protection → ℕ → Type 0
-WasPrincipal G x = (is_active G x ≡ true) ⊎ (has_retired G x ≡ true)
+-- an earlier entry is that x retired
+abbrev pub WasRetired : (earlier : List Entry) → (x : ℕ) → Type 0
+WasRetired earlier x = (e : Entry) × Contains earlier e × (e.actor ≡ x) × (e.command ≡ command.Retire) × (e.outcome ≡ outcome.Allowed)
+
+-- x is a principal, or was one until an earlier entry
+abbrev pub WasPrincipal : Protection → (earlier : List Entry) → (x : ℕ) → Type 0
+WasPrincipal G earlier x = (is_active G x ≡ true) ⊎ WasRetired earlier x
 
 -- an earlier entry of the seat made x its agent
 abbrev pub WasAssumed : (earlier : List Entry) → (seat x : ℕ) → Type 0
 WasAssumed earlier seat x = (e : Entry) × Contains earlier e × (e.seat ≡ seat) × (e.command ≡ command.Assume x) × (e.outcome ≡ outcome.Allowed)
 
--- who may ask from a seat: a principal, one who was, or one whom the seat assumed
+-- who may ask from a seat: a principal, one who was until an earlier entry, or one whom the seat assumed
 abbrev pub MayAsk : Protection → (earlier : List Entry) → (seat x : ℕ) → Type 0
-MayAsk G earlier seat x = (is_active G x ≡ true) ⊎ ((has_retired G x ≡ true) ⊎ WasAssumed earlier seat x)
+MayAsk G earlier seat x = (is_active G x ≡ true) ⊎ (WasRetired earlier x ⊎ WasAssumed earlier seat x)
 
 -- the entry, of somebody who may ask after the earlier ones, leads from one graph to the next
 abbrev pub EntryStep : Limits → (earlier : List Entry) → Protection → Entry → Protection → Type 0

@@ -58,10 +58,10 @@ AnswersHaveMeanings = (limits : Limits) (m n : Moment) (seat : ℕ) → AnswersM
 abbrev pub OneLeastSeat : Type 0
 OneLeastSeat = (seats : List (Option ℕ)) (a b : ℕ) → IsLeastInUse seats a → IsLeastInUse seats b → a ≡ b
 
--- who begins a legal history is a principal, or was one; and so is who asks next from another seat
+-- who begins a legal history is a principal; and who asks next from another seat is one, or was until the first entry
 pub record ActorsMean (limits : Limits) (G : Protection) (e : Entry) : Type 0 where
-  pub first : (es : List Entry) (H : Protection) → Legal limits G (e ∷ es) H → WasPrincipal G e.actor
-  pub next : (f : Entry) (es : List Entry) (H : Protection) → Legal limits G (e ∷ f ∷ es) H → f.seat ≢ e.seat → WasPrincipal (next_graph G e.actor e.command e.outcome) f.actor
+  pub first : (es : List Entry) (H : Protection) → Legal limits G (e ∷ es) H → is_active G e.actor ≡ true
+  pub next : (f : Entry) (es : List Entry) (H : Protection) → Legal limits G (e ∷ f ∷ es) H → f.seat ≢ e.seat → WasPrincipal (next_graph G e.actor e.command e.outcome) (e ∷ []) f.actor
 
 abbrev pub ActorsHaveMeanings : Type 0
 ActorsHaveMeanings = (limits : Limits) (G : Protection) (e : Entry) → ActorsMean limits G e
