@@ -101,16 +101,11 @@ class Bug:
     def __init__(
         self, crate: Crate, name: str, texts: dict[str, str], why: str | None = None
     ) -> None:
-        self.name, self.texts = f"{crate.name}/{name}", texts
+        self.name, self.texts, self.seconds = f"{crate.name}/{name}", texts, 0.0
         self.result = Result(False, f"BAD EDIT: {why}") if why else None
-        self.seconds = 0.0
         self.spans: dict[Function, list[Span]] = {}
         self.constants: dict[bytes, bytes] = {}
         self.is_of_contract = False
-
-    def verdict(self) -> Result:
-        """What is reported of the bug."""
-        return self.result or Result(False, "NOT TRIED")
 
     def lines(self, source: Source) -> list[Line]:
         """The lines that the bug changes in src/ and, as one, all of any other file."""
@@ -126,24 +121,22 @@ class Bug:
         for it in self.lines(source):
             if not self.is_in_a_function(source, it) and not self.is_a_constant(source, it):
                 return False
-        if self.can_be_copied():
-            return True
-        return len(self.spans) == 1 and not self.constants and not self.is_of_contract
+        is_plain = len(self.spans) == 1 and not self.constants and not self.is_of_contract
+        return is_plain or self.can_be_copied()
 
     def is_in_a_function(self, source: Source, line: Line) -> bool:
         """Whether the line's change lies in the body of a function, or between its name and its
         body, which is noted."""
-        was, row = line.was, line.row
+        file, at, was, row = line
         same_end = len(os.path.commonprefix([was[::-1], row[::-1]]))
-        first = line.at + len(os.path.commonprefix([was, row]))
-        end = max(first, line.at + len(was) - same_end)
-        inside = [f for f in source.functions if f.file == line.file and f.has_body]
+        first = at + len(os.path.commonprefix([was, row]))
+        end = max(first, at + len(was) - same_end)
+        inside = [f for f in source.functions if f.file == file and f.has_body]
         found = [f for f in inside if f.named[1] < first and end < f.end]
         if len(found) != 1 or not can_be_edited(found[0]) or shape(was) != shape(row):
             return False
         self.is_of_contract |= first <= found[0].opens
-        span = Span(line.at, line.at + len(was), row)
-        self.spans.setdefault(found[0], []).append(span)
+        self.spans.setdefault(found[0], []).append(Span(at, at + len(was), row))
         return True
 
     def is_a_constant(self, source: Source, line: Line) -> bool:
@@ -160,7 +153,8 @@ class Bug:
         bodies = {f: source.data[f.file][f.opens : f.end] for f in source.functions if f.has_body}
         users = {f: times(body) for f, body in bodies.items() if times(body)}
         every = sum(map(times, source.data.values()))
-        if not 0 < len(users) <= MOST_USERS or every != sum(users.values()) + 1:
+        is_named_in_bodies_alone = users and every == sum(users.values()) + 1
+        if not is_named_in_bodies_alone or len(users) > MOST_USERS:
             return False
         if not all(map(can_stand_twice, users)):
             return False

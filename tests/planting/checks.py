@@ -7,12 +7,13 @@ import subprocess
 import tempfile
 import threading
 import time
-from collections.abc import Collection, Mapping
-from contextlib import suppress
+from collections.abc import Collection, Iterator, Mapping
+from contextlib import contextmanager, suppress
 from pathlib import Path
 from typing import NamedTuple
 
 from planting import kit
+from planting.bugs import Bug, Result
 from planting.kit import Crate
 from planting.turns import Turns
 
@@ -21,6 +22,8 @@ FLAGS = ["--jobs", "1"]
 # What the toolchain's rule says of a check that was killed, and seconds until it is made again.
 KILLED = "was killed"
 PAUSE = 60
+# What it says of a bug that is refused because a written proof names what the bug took away.
+BY_FORM = "only because a proof file names what the edit took away"
 
 
 class Ran(NamedTuple):
@@ -31,13 +34,9 @@ class Ran(NamedTuple):
     seconds: dict[str, float]
     elapsed: float
 
-
-class Judged(NamedTuple):
-    """What the toolchain's own rule said of a bug, and how many seconds it took."""
-
-    is_refused: bool
-    said: str
-    elapsed: float
+    def lines(self) -> list[str]:
+        """The lines of the report."""
+        return self.stdout.rstrip("\n").split("\n")
 
 
 def link(one: str, other: str) -> None:
@@ -68,22 +67,11 @@ def ran(words: list[str], folder: str, turns: Turns) -> Ran:
         errors="replace",
     ) as process, turns.minded(process.pid):
         for line in process.stdout or []:
-            ended = re.match(r"checked (\S+), \d+ of \d+$", line)
-            if ended:
+            if ended := re.match(r"checked (\S+), \d+ of \d+$", line):
                 seconds[ended[1]], last = time.monotonic() - last, time.monotonic()
             else:
                 said.append(line)
     return Ran("".join(said), process.returncode, seconds, time.monotonic() - begun)
-
-
-def put(room: str, texts: Mapping[str, str | None]) -> None:
-    """Writes these texts into the folder, and takes away the files that have none."""
-    for path, text in texts.items():
-        file = Path(room, path)
-        file.parent.mkdir(parents=True, exist_ok=True)
-        file.unlink(missing_ok=True)
-        if text is not None:
-            file.write_text(text, encoding="utf-8")
 
 
 class Checks:
@@ -108,19 +96,37 @@ class Checks:
         """Whether there is kept work that the next check can take over."""
         return os.path.isdir(self.kept)
 
+    @contextmanager
+    def room(self, is_alone: bool) -> Iterator[str]:
+        """A folder for a check, with what is kept, once it has its turn."""
+        turn = self.turns.turn((is_alone, self.rank))
+        with turn, tempfile.TemporaryDirectory(prefix="planted-") as room:
+            if self.has_kept():
+                linked(self.kept, f"{room}/kept")
+            yield room
+
+    def counted(self) -> int:
+        """Counts a check."""
+        with self.counting:
+            self.count += 1
+            return self.count
+
     def check(
         self, texts: Mapping[str, str | None], only: Collection[str], is_alone: bool = False
     ) -> Ran:
-        """What a check says of these functions of the crate with these texts."""
-        turn = self.turns.turn((is_alone, self.rank))
-        with turn, tempfile.TemporaryDirectory(prefix="planted-") as room:
+        """What a check says of these functions of the crate with these texts, of which those that
+        are None are taken away."""
+        with self.room(is_alone) as room:
+            is_first = not os.path.isdir(f"{room}/kept")
             for part in kit.PARTS:
                 if os.path.isdir(f"{self.crate.folder}/{part}"):
                     shutil.copytree(f"{self.crate.folder}/{part}", f"{room}/{part}")
-            put(room, texts)
-            is_first = not self.has_kept()
-            if not is_first:
-                linked(self.kept, f"{room}/kept")
+            for path, text in texts.items():
+                file = Path(room, path)
+                file.parent.mkdir(parents=True, exist_ok=True)
+                file.unlink(missing_ok=True)
+                if text is not None:
+                    file.write_text(text, encoding="utf-8")
             flags = [*FLAGS, "--allow-holes"] if None in texts.values() else FLAGS
             words = [kit.RATTLE, "check", *self.crate.words(flags, keeps=False)]
             words += [word for it in only for word in ("--only", it)]
@@ -129,31 +135,27 @@ class Checks:
                 # (of several that began without, the first one to end leaves its own)
                 with suppress(OSError):
                     os.rename(f"{room}/kept", self.kept)
-        self.note(done)
+        number = self.counted()
+        if self.log:
+            report = Path(self.log, f"{self.crate.name}-{number}")
+            report.write_text(done.stdout, encoding="utf-8")
         return done
 
-    def note(self, done: Ran) -> None:
-        """Counts a check, and writes its report into the folder for reports, if there is one."""
-        with self.counting:
-            self.count += 1
-            file = f"{self.crate.name}-{self.count}"
-        if self.log:
-            Path(self.log, file).write_text(done.stdout, encoding="utf-8")
-
-    def by_the_rule(self, name: str, texts: dict[str, str]) -> Judged:
-        """What the toolchain's own rule says of the crate with these texts, over what is kept and,
-        if that settles nothing, from nothing."""
-        turn = self.turns.turn((True, self.rank))
-        with turn, tempfile.TemporaryDirectory(prefix="planted-") as room:
-            if self.has_kept():
-                linked(self.kept, f"{room}/kept")
+    def by_the_rule(self, bug: Bug) -> None:
+        """Tries the bug by the toolchain's own rule, over what is kept and, if that settles
+        nothing, from nothing."""
+        with self.room(is_alone=True) as room:
             begun = time.monotonic()
             for kept, pause in ((f"{room}/kept", 0), (None, 0), (None, PAUSE)):
                 # Twice from nothing only if the check was killed, as when memory runs short.
-                threading.Event().wait(pause)
-                with self.counting:
-                    self.count += 1
-                is_refused, is_settled, said = kit.tried(self.crate, name, texts, FLAGS, kept)
+                time.sleep(pause)
+                self.counted()
+                judged = kit.tried(self.crate, bug.name, bug.texts, FLAGS, kept)
+                is_refused, is_settled, said = judged
                 if is_settled or (kept is None and KILLED not in said):
                     break
-        return Judged(is_refused, said, time.monotonic() - begun)
+        bug.seconds += time.monotonic() - begun
+        if BY_FORM in said:
+            bug.result = Result(False, f"BY FORM ALONE: {said}")
+        else:
+            bug.result = Result(is_refused, f"alone: {said}")

@@ -1,10 +1,10 @@
 """The texts of a check of many planted bugs: edited copies of functions, or functions edited in
 their place, and holes for the proofs of the others."""
 
-import os
 import re
 from collections import Counter
 from collections.abc import Collection, Iterable
+from pathlib import Path
 
 from planting import kit
 from planting.bugs import Bug, Span, arguments, can_be_edited, is_chosen
@@ -25,12 +25,9 @@ pub {name}_spec : {{M : Type 1}} → statement M
 
 def may_call(body: bytes, f: Function) -> bool:
     """Whether the body may name the function: by a path or on a value, or alone if no method."""
-    name = re.escape(f.name.encode())
-    if not f.block:
-        return bool(re.search(rb"(?<![.\w])%s\b" % name, body))
-    if re.search(rb"::\s*%s\b" % name, body):
-        return True
-    return bool(f.takes_self and re.search(rb"\.\s*%s\s*(?:\(|::)" % name, body))
+    forms = [rb"::\s*%s\b"] if f.block else [rb"(?<![.\w])%s\b"]
+    forms += [rb"\.\s*%s\s*(?:\(|::)"] if f.block and f.takes_self else []
+    return any(re.search(form % re.escape(f.name.encode()), body) for form in forms)
 
 
 class Copies:
@@ -60,7 +57,7 @@ class Copies:
     def symbol(self, f: Function, ending: str = "") -> str:
         """The name by which a report calls the function, or its copy with this ending."""
         if f.in_trait and f.block:
-            trait = kit.last_name(f.block.trait)
+            trait = kit.named(f.block.trait)[0]
             return "::".join([self.crate.name, *f.module, f"{f.owner}{trait}", f.name])
         return "::".join([self.crate.name, *self.path(f)]) + ending
 
@@ -94,23 +91,10 @@ class Copies:
         only bug of the only function that it changes, and changes its body alone, and none of the
         other functions may come to it by calls."""
         times = Counter(f for it in bugs for f in it.spans)
-        called = {f: self.called(bugs, f) for f in times}
+        called = Counter(f for g in times for f in self.called(bugs, g) - {g})
         single = [it for it in bugs if len(it.spans) == 1 and not it.constants]
         own = {it: next(iter(it.spans)) for it in single if not it.is_of_contract}
-
-        def is_called(f: Function) -> bool:
-            return any(f in called[g] for g in times if g is not f)
-
-        return {it: f for it, f in own.items() if times[f] == 1 and not is_called(f)}
-
-    def parts(self, bugs: Collection[Bug]) -> dict[Function, list[Part]]:
-        """What stands for each function that the bugs change: a bug, or copies and a control."""
-        placed = self.placed(bugs).values()
-        found = {f: [] if f in placed else [CONTROL] for it in bugs for f in it.spans}
-        for number, bug in enumerate(bugs, 1):
-            for f in bug.spans:
-                found[f].append((number, bug))
-        return found
+        return {it: f for it, f in own.items() if times[f] == 1 and not called[f]}
 
     def written(
         self, file: str, parts: dict[Function, list[Part]]
@@ -136,10 +120,15 @@ class Copies:
     ) -> tuple[Texts, dict[tuple[str, int], Numbered], dict[Numbered, str]]:
         """The texts of a check of the bugs, of each line of an edited function that function and
         its number, and the names by which a report calls these functions."""
-        parts = self.parts(bugs)
+        # (what stands for each function that the bugs change: a bug, or copies and a control)
+        placed = self.placed(bugs).values()
+        parts = {f: [] if f in placed else [CONTROL] for it in bugs for f in it.spans}
+        for number, bug in enumerate(bugs, 1):
+            for f in bug.spans:
+                parts[f].append((number, bug))
         lines: dict[tuple[str, int], Numbered] = {}
         names: dict[Numbered, str] = {}
-        texts = self.holes([f for f, some in parts.items() if CONTROL not in some])
+        texts = self.holes(placed)
         for file in {f.file for f in parts}:
             text, found = self.written(file, parts)
             lines.update(found)
@@ -173,27 +162,23 @@ class Copies:
         """A hole in place of the written proof of each function but these, so that a check of those
         that call it need not prove it."""
         texts: Texts = {}
-        for f in self.source.functions:
-            if self.has_hole(f) and f not in placed:
-                path = self.path(f)
-                written = "/".join(["proofs", *path])
-                for name in ("Invariants.antt", "Answers.antt"):
-                    texts[f"{written}/{name}"] = None
-                hole = HOLE.format(module=".".join(path), name=f.name, crate=self.crate.name)
-                texts[f"{written}/Proof.antt"] = hole
+        for f in (it for it in self.source.functions if self.has_hole(it) and it not in placed):
+            path = self.path(f)
+            written = "/".join(["proofs", *path])
+            texts |= {f"{written}/Invariants.antt": None, f"{written}/Answers.antt": None}
+            hole = HOLE.format(module=".".join(path), name=f.name, crate=self.crate.name)
+            texts[f"{written}/Proof.antt"] = hole
         return texts
 
     def proofs(self, f: Function, number: int) -> Texts:
         """The written proofs of the function, for a copy: each file's path and text, where it names
         its own modules anew."""
-        path = self.path(f)
+        path, folder = self.path(f), Path(self.crate.folder)
         texts: Texts = {}
-        module = re.escape(".".join(path))
-        own = re.compile(rf"(\bRattle\.{self.crate.name}\.proofs\.{module})(?=[.\s])")
-        for at, _, names in os.walk(f"{self.crate.folder}/proofs/{'/'.join(path)}"):
-            to = os.path.relpath(at, self.crate.folder).split("/")
+        module, new = re.escape(".".join(path)), rf"\g<0>{self.stem}{number}"
+        own = re.compile(rf"\bRattle\.{self.crate.name}\.proofs\.{module}(?=[.\s])")
+        for file in filter(Path.is_file, folder.joinpath("proofs", *path).rglob("*")):
+            to = [*file.relative_to(folder).parts]
             to[len(path)] += f"{self.stem}{number}"
-            for name in names:
-                text = own.sub(rf"\g<1>{self.stem}{number}", kit.text_of(f"{at}/{name}"))
-                texts["/".join([*to, name])] = text
+            texts["/".join(to)] = own.sub(new, kit.text_of(str(file)))
         return texts

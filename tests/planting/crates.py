@@ -5,7 +5,8 @@ from collections import Counter
 from concurrent.futures import Future, ThreadPoolExecutor, as_completed
 
 from planting import kit
-from planting.bugs import Bug, must_fail, planted
+from planting.bugs import Bug, Result, must_fail, planted
+from planting.checks import Checks
 from planting.kit import Crate
 from planting.trial import Trial
 from planting.turns import Turns
@@ -18,7 +19,8 @@ def are_left(crates: list[Crate], since: float = 0) -> bool:
         made = f"{it.rlib}/format"
         if not os.path.isfile(made) or os.path.exists(f"{it.folder}/out/rlib/stamp"):
             return False
-        if os.path.getmtime(made) <= max(since, kit.changed_at(it)):
+        written = map(os.path.getmtime, kit.files_of(it.folder))
+        if os.path.getmtime(made) <= max(since, *written):
             return False
     return True
 
@@ -48,9 +50,8 @@ class Planting:
 
     def begin(self, crate: Crate) -> None:
         """Begins with the bugs of a crate whose libraries are proved."""
-        bugs, rank = self.bugs[crate.name], self.ranks[crate.name]
-        trial = Trial(crate, bugs, self.turns, rank, self.seeds, self.log)
-        self.begun[crate.name] = trial
+        checks = Checks(crate, self.turns, self.ranks[crate.name], self.seeds, self.log)
+        self.begun[crate.name] = trial = Trial(self.bugs[crate.name], checks)
         self.running[self.crates.submit(trial.run, self.pool)] = trial
 
     def leave(self) -> None:
@@ -62,29 +63,28 @@ class Planting:
     def end(self) -> bool:
         """Reports each bug once its crate's have been tried; returns whether all were refused that
         there was time for."""
+        tried: list[tuple[Bug, Result]] = []
+        left: Counter[str] = Counter()
         for ended in as_completed(self.running):
             ended.result()
-            for bug in self.tried(self.running[ended].bugs):
-                print(f"planted {bug.name}: {bug.verdict().said}", flush=True)
-        trials = self.begun.values()
-        every = [bug for trial in trials for bug in trial.bugs]
-        bugs = self.tried(every)
-        dearest = sorted(bugs, key=lambda it: -it.seconds)[:10]
+            trial = self.running[ended]
+            for bug in trial.bugs:
+                if bug.result or not self.turns.is_closed:
+                    result = bug.result or Result(False, "NOT TRIED")
+                    tried.append((bug, result))
+                    print(f"planted {bug.name}: {result.said}", flush=True)
+                else:
+                    left[trial.crate.name] += 1
+        dearest = sorted((bug for bug, _ in tried), key=lambda it: -it.seconds)[:10]
         times = ", ".join(f"{it.name} {it.seconds:.0f}" for it in dearest)
         print(f"planted: dearest, in seconds: {times}")
-        print(f"planted: {sum(it.checks.count for it in trials)} checks")
-        if len(bugs) < len(every):
-            # (a bug's name begins with its crate's)
-            crates = Counter(it.name.split("/")[0] for it in every if it not in bugs)
-            left = ", ".join(f"{name} {count}" for name, count in crates.items())
-            print(f"planted: no time for {len(every) - len(bugs)}: {left}")
-        failed = [it for it in bugs if not it.verdict().is_refused]
-        for bug in failed:
+        print(f"planted: {sum(it.checks.count for it in self.begun.values())} checks")
+        if left:
+            counts = ", ".join(f"{name} {left[name]}" for name in self.begun if left[name])
+            print(f"planted: no time for {left.total()}: {counts}")
+        failed = [(bug, result) for bug, result in tried if not result.is_refused]
+        for bug, result in failed:
             # Once more, since of a long output often only the end is kept.
-            print(f"planted FAILED {bug.name}: {bug.verdict().said}")
-        print(f"{len(bugs) - len(failed)} passed, {len(failed)} failed", flush=True)
+            print(f"planted FAILED {bug.name}: {result.said}")
+        print(f"{len(tried) - len(failed)} passed, {len(failed)} failed", flush=True)
         return not failed
-
-    def tried(self, bugs: list[Bug]) -> list[Bug]:
-        """The bugs but for those that were left when no turn came any more."""
-        return [it for it in bugs if it.result or not self.turns.is_closed]

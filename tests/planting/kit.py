@@ -6,12 +6,13 @@ Over another it warns; if that one lacks anything that is used here, the run end
 that names it.
 """
 
+import operator
 import os
 import re
 import shutil
 import sys
 import types
-from collections.abc import Iterable, Mapping
+from collections.abc import Callable, Iterable, Mapping
 from importlib.machinery import SourceFileLoader
 from pathlib import Path
 from typing import Any, NoReturn, Protocol
@@ -19,10 +20,7 @@ from typing import Any, NoReturn, Protocol
 WRITTEN_FOR = "rattle-kit-13f logic dac8208d650f15bf"
 # What is used of each program. (A field of what they make is looked for once one is made.)
 USED_OF_RT = "rtlib must_fail read_edit unread processors free"
-USED_OF_RTLIB = (
-    "KIT RATTLE PARTS KEPT STALE guarded crates_below text_of files_of"
-    " Crate.below Crate.words Crate.build_rlib"
-)
+USED_OF_RTLIB = "KIT RATTLE PARTS KEPT STALE guarded crates_below text_of files_of"
 USED_OF_BODIES = "Source Source.read named"
 
 # The texts of files by their paths in the crate; None for a file that is taken away.
@@ -70,21 +68,16 @@ class Source(Protocol):
 
 
 class Crate(Protocol):
-    """A crate of the repository."""
+    """A crate of the repository, the libraries that it stands on, the words of a check of it, and
+    what builds its library, with a status."""
 
     name: str
     folder: str
     rlib: str
     is_program: bool
-
-    def below(self) -> list["Crate"]:
-        """The libraries of the repository that the crate stands on."""
-
-    def words(self, flags: list[str], tests: bool = False, keeps: bool = True) -> list[str]:
-        """The words of a check of the crate."""
-
-    def build_rlib(self, flags: list[str], anew: bool) -> int:
-        """Builds the library, and returns the status."""
+    below: "Callable[[], list[Crate]]"
+    words: Callable[..., list[str]]
+    build_rlib: Callable[..., int]
 
 
 def stop(why: str) -> NoReturn:
@@ -106,11 +99,10 @@ def load(file: str) -> Any:
 def need(whose: str, of: Any, names: Iterable[str]) -> None:
     """Ends the run if anything of these names is missing."""
     for name in names:
-        found = of
-        for part in name.split("."):
-            if not hasattr(found, part):
-                stop(f"this kit's {whose} has no {name}")
-            found = getattr(found, part)
+        try:
+            operator.attrgetter(name)(of)
+        except AttributeError:
+            stop(f"this kit's {whose} has no {name}")
 
 
 RT = os.path.realpath(shutil.which("rt") or sys.exit("planted: there is no rt on the path"))
@@ -124,18 +116,26 @@ RATTLE: str = _rtlib.RATTLE
 # The folders of a crate that a check reads, and the one in which rt keeps what a check proved.
 PARTS: tuple[str, ...] = _rtlib.PARTS
 KEPT: str = _rtlib.KEPT[1]
+# What a check reports if the kept work of a library could not be used.
+STALE: re.Pattern[str] = _rtlib.STALE
+# The words before a command with which it ends when this program does. (The first call sets a
+# signal's handler, which only the main thread may do.)
+guard: Callable[[], list[str]] = _rtlib.guarded
+text_of: Callable[[str], str] = _rtlib.text_of
+# The files that a check of a crate reads, by its folder.
+files_of: Callable[[str], list[str]] = _rtlib.files_of
+# The last name of the path of a type, that path, and the type's arguments.
+named: Callable[[list[str]], tuple[str, str, list[str]]] = _bodies.named
+# Whether the line of a report says that one of these texts, or a source, cannot be read.
+cannot_be_read: Callable[[str, Mapping[str, str | None]], bool] = _rt.unread
+# The texts that an edit of must-fail/ makes of the crate's files, or why it cannot be made.
+read_edit: Callable[[str, str], tuple[dict[str, str] | None, str | None]] = _rt.read_edit
 
-
-def warn_of_another_kit() -> None:
-    """Says on standard error if the kit is not the one that this is written for."""
-    file = Path(_rtlib.KIT, "KIT-ID")
-    kit = file.read_text(encoding="utf-8").strip() if file.is_file() else "without a KIT-ID"
-    if kit != WRITTEN_FOR:
-        said = f"tests/planting/kit.py is written for {WRITTEN_FOR}, and this kit is {kit}"
-        print(f"planted: warning: {said}", file=sys.stderr)
-
-
-warn_of_another_kit()
+_id = Path(_rtlib.KIT, "KIT-ID")
+_kit = _id.read_text(encoding="utf-8").strip() if _id.is_file() else "without a KIT-ID"
+if _kit != WRITTEN_FOR:
+    _said = f"tests/planting/kit.py is written for {WRITTEN_FOR}, and this kit is {_kit}"
+    print(f"planted: warning: {_said}", file=sys.stderr)
 
 
 def crates_below(folder: str) -> list[Crate]:
@@ -151,65 +151,23 @@ def source_of(crate: Crate) -> Source:
     source = _bodies.Source(crate.folder)
     source.read("src/main.rt" if crate.is_program else "src/lib.rt")
     need("rt-plant-bodies.Source", source, Source.__annotations__)
-    for it in source.functions[:1]:
-        need("rt-plant-bodies.Function", it, Function.__annotations__)
-    for it in [f.block for f in source.functions if f.block][:1]:
-        need("rt-plant-bodies.Block", it, Block.__annotations__)
     made: Source = source
+    for it in made.functions[:1]:
+        need("rt-plant-bodies.Function", it, Function.__annotations__)
+    for block in [f.block for f in made.functions if f.block][:1]:
+        need("rt-plant-bodies.Block", block, Block.__annotations__)
     return made
-
-
-def last_name(type_words: list[str]) -> str:
-    """The last name of the path of a type."""
-    name: str = _bodies.named(type_words)[0]
-    return name
-
-
-def guard() -> list[str]:
-    """The words before a command with which it ends when this program does. (The first call sets a
-    signal's handler, which only the main thread may do.)"""
-    words: list[str] = _rtlib.guarded()
-    return words
-
-
-def text_of(file: str) -> str:
-    """What a file says."""
-    text: str = _rtlib.text_of(file)
-    return text
-
-
-def changed_at(crate: Crate) -> float:
-    """When any file that a check of the crate reads was last written."""
-    return max(map(os.path.getmtime, _rtlib.files_of(crate.folder)))
-
-
-def is_stale(said: str) -> bool:
-    """Whether a check reports that the kept work of a library could not be used."""
-    return bool(_rtlib.STALE.search(said))
-
-
-def cannot_be_read(line: str, texts: Mapping[str, str | None]) -> bool:
-    """Whether the line of a report says that one of these texts, or a source, cannot be read."""
-    return bool(_rt.unread(line, texts))
 
 
 def jobs_now() -> int:
     """How many checks processors and memory allow at once."""
-    processors: int = _rt.processors()
-    return max(1, min(processors, int(_rt.free() / 4e9)))
-
-
-def read_edit(file: str, folder: str) -> tuple[dict[str, str] | None, str | None]:
-    """The texts that an edit of must-fail/ makes of the crate's files, or why it cannot be made."""
-    texts, why = _read_edit(file, folder)
-    return texts, why
+    return max(1, min(int(_rt.processors()), int(_rt.free() / 4e9)))
 
 
 # The toolchain's rule reads a bug from a file of its own form, but for those whose texts are here.
 _texts: dict[str, dict[str, str]] = {}
-_read_edit = _rt.read_edit
 _rt.read_edit = lambda file, folder: (
-    (_texts[file], None) if file in _texts else _read_edit(file, folder)
+    (_texts[file], None) if file in _texts else read_edit(file, folder)
 )
 
 

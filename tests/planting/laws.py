@@ -21,12 +21,12 @@ class Asked(NamedTuple):
     clause: Clause
     touched: set[str]
 
-
-def are_apart(one: Asked, other: Asked) -> bool:
-    """Whether the clause of each is certain not to reach what the other touches, and the two touch
-    nothing in common."""
-    is_apart = one.clause.is_apart(other.touched) and other.clause.is_apart(one.touched)
-    return is_apart and not one.touched & other.touched
+    def is_apart(self, other: "Asked") -> bool:
+        """Whether the clause of each is certain not to reach what the other touches, and the two
+        touch nothing in common."""
+        pairs = [(self.clause.reached, other.touched), (other.clause.reached, self.touched)]
+        are_apart = all(reached is not None and not reached & it for reached, it in pairs)
+        return are_apart and not self.touched & other.touched
 
 
 class Laws:
@@ -47,19 +47,17 @@ class Laws:
     def reach(self) -> Reach:
         """What the functions of the crate reach by contracts, and the laws by proofs too."""
 
-        def text(file: str, start: int, end: int) -> str:
-            return self.source.data[file][start:end].decode()
-
         own = [f for f in self.source.functions if f.has_body and not f.in_trait]
-        contracts = {self.name(f): (text(f.file, f.first, f.opens), len(f.body)) for f in own}
-        types = []
+        heads = {f: self.source.data[f.file][f.first : f.opens].decode() for f in own}
+        contracts = {self.name(f): (head, len(f.body)) for f, head in heads.items()}
+        types = b""
         for file, data in self.source.data.items():
             spans = sorted((f.first, f.end) for f in self.source.functions if f.file == file)
             between = zip([(0, 0), *spans], [*spans, (len(data), 0)])
-            types += [text(file, done, start) for (_, done), (start, _) in between]
+            types += b"".join(data[done:start] + b"\n" for (_, done), (start, _) in between)
         calling = {self.name(f) for f in own if self.copies.calls[f]}
         laws = [it for it in self.laws() if it not in calling]
-        return Reach(self.crate.folder, self.crate.name, contracts, laws, "\n".join(types))
+        return Reach(self.crate.folder, self.crate.name, contracts, laws, types.decode())
 
     def groups(self, bugs: list[Bug]) -> list[list[Asked]]:
         """The bugs in definitions that one check each tries."""
@@ -70,10 +68,10 @@ class Laws:
             clause = reach.nearest(touched)
             if clause:
                 own = Asked(bug, clause, touched)
-                fitting = (it for it in groups if all(are_apart(own, them) for them in it))
-                room = next(fitting, None)
-                if room:
-                    room.append(own)
+                for room in groups:
+                    if all(map(own.is_apart, room)):
+                        room.append(own)
+                        break
                 else:
                     groups.append([own])
         return groups
@@ -97,16 +95,11 @@ class Laws:
     def users(self, constants: list[bytes]) -> list[Function]:
         """The functions that name one of the constants: those that do so in their bodies and those
         of the others that call one of these, or all of them if no body does."""
-        named = [re.compile(rb"\b%s\b" % it) for it in constants]
-
-        def names(f: Function, at: int) -> bool:
-            return any(it.search(self.source.data[f.file], at, f.end) for it in named)
-
-        every = [f for f in self.source.functions if names(f, f.first)]
-        nearest = {f for f in every if f.has_body and names(f, f.opens)}
-        if not nearest:
-            return every
-        return [f for f in every if f in nearest or self.copies.calls[f] & nearest]
+        named = re.compile(rb"\b(?:%s)\b" % b"|".join(constants))
+        data, functions = self.source.data, self.source.functions
+        every = [f for f in functions if constants and named.search(data[f.file], f.first, f.end)]
+        nearest = {f for f in every if f.has_body and named.search(data[f.file], f.opens, f.end)}
+        return [f for f in every if not nearest or f in nearest or self.copies.calls[f] & nearest]
 
     def inside(self, bug: Bug) -> set[Function]:
         """The functions in which the bug changes lines; none if a change there changes more than
@@ -124,8 +117,7 @@ class Laws:
         it changes."""
         if any(not it.startswith("src/") for it in bug.texts):
             return self.laws()
-        own = self.users(self.constants(bug)) or self.inside(bug)
-        if own:
+        if own := self.users(self.constants(bug)) or self.inside(bug):
             return sorted(map(self.copies.asked, own))
         modules = {f.module for f in self.source.functions if f.file in bug.texts}
         return [] if () in modules else ["::".join(it) for it in sorted(modules)]

@@ -12,6 +12,7 @@ law that imports its file.
 import os
 import re
 from collections.abc import Iterator
+from dataclasses import dataclass
 from pathlib import Path
 
 # A line of a file, by the file's path in the crate and the line's number.
@@ -100,30 +101,26 @@ class Text:
         return {at for at, it in enumerate(self.names, 1) if it is None or it in named}
 
 
+@dataclass
 class Clause:
     """A clause of a contract: its function, its name, if any, the words that it reaches by, the
     size of the function's body, and, if it is a law's and rests on no other proofs of the crate,
     all definitions that it reaches and the lines of its answer and of the lemmas that this rests
     on."""
 
-    def __init__(self, function: str, name: str, text: str, size: int) -> None:
-        self.function, self.name, self.words, self.size = function, name, words_of(text), size
-        self.reached: set[str] | None = None
-        self.places: set[Place] | None = None
-
-    def is_apart(self, touched: set[str]) -> bool:
-        """Whether it is certain that the clause reaches none of these definitions."""
-        return self.reached is not None and not self.reached & touched
+    function: str
+    name: str
+    words: set[str]
+    size: int
+    reached: set[str] | None = None
+    places: set[Place] | None = None
 
 
 def clauses_of(function: str, contract: str, size: int) -> list[Clause]:
     """The clauses of a contract. What stands before the first belongs to each."""
     before, *rest = re.split(r"\bensures\b", IDLE.sub("", contract))
-    found = []
-    for part in rest or [""]:
-        name = re.match(r"[*\s]*(\w*)", part)
-        found.append(Clause(function, name[1] if name else "", before + part, size))
-    return found
+    named = [(re.findall(r"\A[*\s]*(\w*)", part)[0], part) for part in rest or [""]]
+    return [Clause(function, name, words_of(before + part), size) for name, part in named]
 
 
 class Reach:
@@ -152,8 +149,7 @@ class Reach:
         every = set[str]().union(*files.values())
         texts = {file: Text(read(f"{folder}/{file}")) for file in every}
         for clause in self.clauses:
-            own = files.get(clause.function)
-            if own:
+            if own := files.get(clause.function):
                 self.note(clause, {file: texts[file] for file in own})
 
     def files_of(self, path: str) -> set[str]:

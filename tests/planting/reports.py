@@ -7,10 +7,8 @@ from planting import kit
 from planting.checks import Ran
 from planting.reach import Place
 
-# What a report says of a written proof that names what a bug took away, and what the toolchain's
-# rule says of such a bug.
+# What a report says of a written proof that names what a bug took away.
 NAMES = re.compile(r"has no field|is not in scope|has no `|was not admitted")
-BY_FORM = "only because a proof file names what the edit took away"
 ERROR = re.compile(r"(?:\./)?((?:src|specs|proofs)/\S+?):(\d+):\d+: error")
 TOLD = re.compile(r"(?:note: )?\S+:\d+:\d+:")
 # What a report says of a function of which nothing is wrong but what it calls, or the impl that it
@@ -32,26 +30,15 @@ PROVES = re.compile(rf"fn (\S+): {PROVED}")
 QUOTED = re.compile(r"`([^`]+)`")
 
 
-def lines_of(ran: Ran) -> list[str]:
-    """The lines of a report."""
-    return ran.stdout.rstrip("\n").split("\n")
-
-
-def blocks(functions: Iterable[str]) -> set[str]:
-    """The blocks, or modules, that the functions stand in."""
-    return {f.rpartition("::")[0] for f in functions}
-
-
 def waiting(said: list[str], edited: set[str]) -> set[str]:
     """The functions of a report that are not proved only because they call edited ones or one
-    another, or hand on an impl of such."""
-    matches = [it for it in map(WAITS.match, said) if it]
-    calls = {it[1]: {*QUOTED.findall(it[2])} for it in matches}
-    found: set[str] = set()
-    unproved = edited | blocks(edited)
-    while more := {f for f, named in calls.items() if f not in found and named <= unproved}:
+    another, or hand on an impl of such, which is the module that they stand in."""
+    calls = {it[1]: {*QUOTED.findall(it[2])} for it in map(WAITS.match, said) if it}
+    found, unproved, more = set[str](), set[str](), edited
+    while more:
+        unproved |= more | {f.rpartition("::")[0] for f in more}
+        more = {f for f, named in calls.items() if f not in found and named <= unproved}
         found |= more
-        unproved |= more | blocks(more)
     return found
 
 
@@ -76,7 +63,7 @@ class Report:
         self.unread: set[tuple[object, int]] = set()
         self.stray: list[str] = []
         self.crate, self.lines, self.symbols, self.holes = crate, lines, symbols, holes
-        said = lines_of(ran)
+        said = ran.lines()
         # (of a hole a report says that it is not proved if its caller cannot have one)
         self.waits = waiting(said, symbols | holes)
         # (a function whose goals wait is looked at in its own line, and may be proved all the same
@@ -90,16 +77,17 @@ class Report:
                 self.read(line, notes)
             notes = [] if line.startswith("fn ") else notes
         ended = ran.returncode in (0, 1) and said[-1].startswith("only=")
-        self.stray += [] if ended and not kit.is_stale(ran.stdout) else said[-1:]
+        self.stray += [] if ended and not kit.STALE.search(ran.stdout) else said[-1:]
 
     def read(self, line: str, notes: list[str]) -> None:
         """Takes a line of the report that is no note; these are the notes before it."""
-        error, name = ERROR.match(line), ""
+        error = ERROR.match(line)
+        name = line[len("fn ") :].partition(": ")[0] if line.startswith("fn ") else ""
         if error:
             name = "::".join([self.crate, *error[1].split("/")[1:-1]])
-        elif line.startswith("fn "):
-            name = line[len("fn ") :].partition(": ")[0]
-        copy = self.edited(name)
+        # (a closure in M::T::f is named M::fn::T::f::closure)
+        path = f"{name}::".replace("::fn::", "::")
+        copy = next((it for it in self.symbols if path.startswith(f"{it}::")), None)
         if error and copy:
             self.faults.setdefault(copy, []).append(line)
         elif error and (error[1], int(error[2])) in self.lines:
@@ -108,12 +96,6 @@ class Report:
             self.judge(copy, line, notes)
         elif error or self.is_stray(line, name):
             self.stray.append(line)
-
-    def edited(self, name: str) -> str | None:
-        """The edited function to which a name belongs. (A closure in M::T::f is named
-        M::fn::T::f::closure.)"""
-        path = f"{name}::".replace("::fn::", "::")
-        return next((it for it in self.symbols if path.startswith(f"{it}::")), None)
 
     def judge(self, copy: str, line: str, notes: list[str]) -> None:
         """Takes the line that says of an edited function whether it is proved."""
@@ -128,16 +110,14 @@ class Report:
         """Whether the line says of anything else that it is not proved, and does not only wait."""
         if name not in self.waits and re.match(rf"(fn|impl) \S+: (?!assumed|{PROVED})", line):
             return True
-        if "has not tried the goals of" not in line:
-            return False
-        return not {*UNTRIED.findall(line)} & self.seen
+        return "has not tried the goals of" in line and not {*UNTRIED.findall(line)} & self.seen
 
 
 def refusal(ran: Ran, texts: Mapping[str, str | None], own: set[Place] | None = None) -> str | None:
     """What refuses the edited texts in a check that was asked for some functions, in one of its own
     lines if any are given, or None if that is not clear."""
-    said = lines_of(ran)
-    if ran.returncode != 1 or not said[-1].startswith("only=") or kit.is_stale(ran.stdout):
+    said = ran.lines()
+    if ran.returncode != 1 or not said[-1].startswith("only=") or kit.STALE.search(ran.stdout):
         return None
     if any(kit.cannot_be_read(it, texts) for it in said):
         return None
@@ -148,12 +128,9 @@ def refusal(ran: Ran, texts: Mapping[str, str | None], own: set[Place] | None = 
         if not all(it[1].startswith("proofs/") for it in errors if it):
             return None
         told = [it for it, error in zip(told, errors) if error and (error[1], int(error[2])) in own]
-    return next((it for it in told if not is_by_name(it)), None)
-
-
-def is_by_name(line: str) -> bool:
-    """Whether the line says only that a written proof names what is not there."""
-    return bool(NAMES.search(line) and re.match(r"(note: )?(\./)?proofs/", line))
+    # (of a written proof that only names what is not there nothing is taken)
+    proof = re.compile(r"(note: )?(\./)?proofs/")
+    return next((it for it in told if not (NAMES.search(it) and proof.match(it))), None)
 
 
 def first_fault(faults: Iterable[str]) -> str | None:

@@ -5,15 +5,16 @@ import tempfile
 from collections.abc import Callable, Iterable
 from concurrent.futures import ThreadPoolExecutor
 from contextlib import suppress
+from functools import partial
 from typing import TypeVar
 
 from planting.bugs import Bug, Result, can_be_edited
-from planting.checks import Checks, Ran
-from planting.copies import Copies, Numbered
-from planting.kit import Crate, Function, Texts
+from planting.checks import Checks
+from planting.copies import Copies
+from planting.kit import Function
 from planting.laws import Asked, Laws
-from planting.reports import BY_FORM, Report, first_fault, refusal
-from planting.turns import Closed, Turns
+from planting.reports import Report, first_fault, refusal
+from planting.turns import Closed
 
 # The bugs that one check tries at most, and how many that then need no copy are worth a check of
 # their own.
@@ -26,18 +27,9 @@ class Trial:
     """The planted bugs of a crate. Those that are tried alone, which take less time each, come
     after all checks of copies."""
 
-    def __init__(
-        self,
-        crate: Crate,
-        bugs: list[Bug],
-        turns: Turns,
-        rank: int,
-        seeds: str | None,
-        log: str | None = None,
-    ) -> None:
-        self.crate, self.bugs = crate, bugs
-        self.checks = Checks(crate, turns, rank, seeds, log)
-        self.copies = Copies(crate, are_holed=not self.checks.were)
+    def __init__(self, bugs: list[Bug], checks: Checks) -> None:
+        self.crate, self.bugs, self.checks = checks.crate, bugs, checks
+        self.copies = Copies(self.crate, are_holed=not checks.were)
         self.laws, self.source = Laws(self.copies), self.copies.source
 
     def symbols(self, functions: Iterable[Function]) -> set[str]:
@@ -46,7 +38,7 @@ class Trial:
 
     def batch(self, bugs: list[Bug], more: Iterable[str] = ()) -> None:
         """Tries the bugs in one check, which also proves these functions. Those that it does not
-        refuse for certain get no result."""
+        refuse for certain get no result; each is told how long its functions took."""
         texts, lines, names = self.copies.made(bugs)
         symbols = {*names.values()}
         asked = [it.partition("::")[2] for it in sorted(symbols)]
@@ -55,31 +47,21 @@ class Trial:
         holes = self.symbols(self.source.functions) - symbols if are_holed else set[str]()
         report = Report(self.crate.name, done, lines, symbols, holes)
         if report.unread:
-            rest = [it for number, it in enumerate(bugs, 1) if not is_unread(it, number, report)]
-            if rest:
-                self.batch(rest)
-        elif report.stray:
+            # (the text of a function, with a bug or as the control, cannot be read)
+            unread = {(f, bugs[number - 1] if number else None) for f, number in report.unread}
+            rest = [it for it in bugs if not any(unread & {(f, it), (f, None)} for f in it.spans)]
+            return self.batch(rest) if rest else None
+        if report.stray:
             why = f"{len(bugs)} bugs are tried in halves, or alone: {report.stray[0][:200]}"
             print(f"planted: {self.crate.name}: {why}", file=sys.stderr)
             middle = len(bugs) // 2
             for half in (bugs[:middle], bugs[middle:]) * (len(bugs) > 1):
                 self.batch(half)
-        else:
-            self.judge(bugs, names, report, done.seconds)
-
-    def judge(
-        self,
-        bugs: list[Bug],
-        names: dict[Numbered, str],
-        report: Report,
-        seconds: dict[str, float],
-    ) -> None:
-        """Gives their result to the bugs that the report refuses for certain, and to each how long
-        its functions took."""
+            return None
         for number, bug in enumerate(bugs, 1):
             for f in bug.spans:
                 name, control = names[f, number], names.get((f, 0))
-                bug.seconds += seconds.get(name, 0)
+                bug.seconds += done.seconds.get(name, 0)
                 fault = first_fault(report.faults.get(name, []))
                 is_sound = control is None or control in report.proved
                 if fault and is_sound and name not in report.proved:
@@ -104,7 +86,7 @@ class Trial:
         if fault:
             bug.result = Result(True, f"refused, alone: {fault[:160]}")
         else:
-            self.by_the_rule(bug)
+            self.checks.by_the_rule(bug)
 
     def fault(self, bug: Bug, about: list[str]) -> str | None:
         """What refuses the bug in a check of these functions, if that is clear."""
@@ -112,28 +94,17 @@ class Trial:
         own = {f for f in functions if self.copies.asked(f) in about}
         is_inside = len(own) == len(about) and bug.texts.keys() <= self.source.data.keys()
         is_holed = self.copies.are_holed and is_inside
-        texts: Texts = self.copies.holes(own) if is_holed else {}
-        done = self.checks.check({**texts, **bug.texts}, about, is_alone=True)
+        holes = self.copies.holes(own) if is_holed else {}
+        done = self.checks.check({**holes, **bug.texts}, about, is_alone=True)
         bug.seconds += done.elapsed
-        return self.fault_over_holes(done, own) if is_holed else refusal(done, bug.texts)
-
-    def fault_over_holes(self, done: Ran, own: set[Function]) -> str | None:
-        """What a check with holes says of these functions, if it refuses one for certain."""
+        if not is_holed:
+            return refusal(done, bug.texts)
         symbols = self.symbols(own)
-        holes = self.symbols(self.source.functions) - symbols
-        report = Report(self.crate.name, done, {}, symbols, holes)
+        others = self.symbols(self.source.functions) - symbols
+        report = Report(self.crate.name, done, {}, symbols, others)
         unproved = [it for it in sorted(report.faults.items()) if it[0] not in report.proved]
         fault = first_fault(line for _, lines in unproved for line in lines)
         return None if report.stray else fault
-
-    def by_the_rule(self, bug: Bug) -> None:
-        """Tries the bug by the toolchain's own rule."""
-        judged = self.checks.by_the_rule(bug.name, bug.texts)
-        bug.seconds += judged.elapsed
-        if BY_FORM in judged.said:
-            bug.result = Result(False, f"BY FORM ALONE: {judged.said}")
-        else:
-            bug.result = Result(judged.is_refused, f"alone: {judged.said}")
 
     def batches(self, bugs: list[Bug]) -> list[list[Bug]]:
         """The bugs that are tried in one check each: those that cannot be made in copies, and with
@@ -177,12 +148,10 @@ class Trial:
             if not self.checks.were and batches:
                 # (it makes what the others begin with; the laws are for bugs in definitions)
                 laws = self.laws.laws() if len(copied) < len(self.bugs) else []
-                with suppress(Closed):
-                    self.batch(batches.pop(0), laws)
+                while_open(partial(self.batch, more=laws))(batches.pop(0))
             groups = self.laws.groups(others)
             if not self.checks.has_kept() and groups:
-                with suppress(Closed):
-                    self.by_laws(groups.pop(0))
+                while_open(self.by_laws)(groups.pop(0))
             list(pool.map(while_open(self.batch), batches))
             list(pool.map(while_open(self.by_laws), groups))
             list(pool.map(while_open(self.alone), [it for it in self.bugs if not it.result]))
@@ -196,8 +165,3 @@ def while_open(task: Callable[[Item], None]) -> Callable[[Item], None]:
             task(item)
 
     return tried
-
-
-def is_unread(bug: Bug, number: int, report: Report) -> bool:
-    """Whether the text of a function with the bug, or of its control, cannot be read."""
-    return any(report.unread & {(f, number), (f, 0)} for f in bug.spans)

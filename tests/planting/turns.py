@@ -1,6 +1,6 @@
 """Who may run a check now: so many at once, the dearest crates first."""
 
-import heapq
+import itertools
 import os
 import threading
 from collections.abc import Iterator
@@ -27,8 +27,8 @@ class Turns:
 
     def __init__(self, count: int, niceness: int = 0) -> None:
         self.free, self.niceness, self.is_closed = count, niceness, False
-        self.asked = 0
         self.waiting: list[tuple[Rank, int]] = []
+        self.numbers = itertools.count()
         self.processes: set[int] = set()
         self.changed = threading.Condition()
 
@@ -36,13 +36,14 @@ class Turns:
     def turn(self, rank: Rank) -> Iterator[None]:
         """Waits for a turn, and holds it."""
         with self.changed:
-            self.asked += 1
-            own = rank, self.asked
-            heapq.heappush(self.waiting, own)
-            self.changed.wait_for(lambda: self.is_closed or self.is_next(own))
+            own = rank, next(self.numbers)
+            self.waiting.append(own)
+            self.changed.wait_for(
+                lambda: self.is_closed or self.free > 0 and min(self.waiting) == own
+            )
             if self.is_closed:
                 raise Closed
-            heapq.heappop(self.waiting)
+            self.waiting.remove(own)
             self.free -= 1
             self.changed.notify_all()
         try:
@@ -51,10 +52,6 @@ class Turns:
             with self.changed:
                 self.free += 1
                 self.changed.notify_all()
-
-    def is_next(self, own: tuple[Rank, int]) -> bool:
-        """Whether the one that waits may run."""
-        return self.free > 0 and self.waiting[0] == own
 
     @contextmanager
     def minded(self, process: int) -> Iterator[None]:
@@ -84,9 +81,8 @@ class Turns:
 
     def close_in(self, seconds: float) -> None:
         """Gives no more turns once so many seconds are over."""
-        if seconds > 0:
-            timer = threading.Timer(seconds, self.close)
-            timer.daemon = True
-            timer.start()
-        else:
-            self.close()
+        if seconds <= 0:
+            return self.close()
+        timer = threading.Timer(seconds, self.close)
+        timer.daemon = True
+        timer.start()
