@@ -2,12 +2,13 @@
 no bug with another's refusal; tests/run, given names, runs the tests of these names, and fails if a
 name is no test's."""
 
+import re
 import sys
 import tempfile
 from pathlib import Path
 
 from checking import Tests, named, passes, same
-from planting import reach_tests, reading_tests, reports_tests
+from planting import own_tests
 from planting.reading import unpacked
 from running import ROOT, ran
 
@@ -25,12 +26,6 @@ BUGS = {
 }
 
 
-def said(line: str) -> tuple[str, str]:
-    """The bug's name and its result, from a line of the runner."""
-    name, _, result = line.removeprefix("planted tiny/").partition(": ")
-    return name, result
-
-
 def tried(program: Path, *words: str) -> tuple[list[str], int]:
     """The lines of the runner over a copy of the repository, and its status."""
     with tempfile.TemporaryDirectory() as folder:
@@ -42,7 +37,7 @@ def tried(program: Path, *words: str) -> tuple[list[str], int]:
 def edits_of_a_crate_are_told_apart(program: Path) -> None:
     """Seven bugs are refused; harmless ones, an absent text and a lost name count as failed."""
     lines, status = tried(program)
-    found = dict(said(line) for line in lines if line.startswith("planted tiny/"))
+    found = dict(re.findall(r"^planted tiny/(.*?): (.*)", "\n".join(lines), re.M))
     for name, begins in BUGS.items():
         same(found.get(name, "")[: len(begins)], begins, f"{name}: {found.get(name)}")
     same((lines[-1:], status), (["7 passed, 5 failed"], 1))
@@ -67,9 +62,7 @@ def names_pick_tests(program: Path) -> None:
 
 def tests() -> Tests:
     """All tests by their names; they take the runner of planted bugs."""
-    yield from reading_tests.tests()
-    yield from reports_tests.tests()
-    yield from reach_tests.tests()
+    yield from own_tests.tests()
     yield from named(edits_of_a_crate_are_told_apart, bugs_without_time_are_counted)
     yield from named(names_pick_tests)
 
