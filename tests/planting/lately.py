@@ -3,9 +3,11 @@
 import subprocess
 from collections.abc import Collection
 from pathlib import Path
+from typing import TypeVar
 
 from planting.kit import Crate
 
+Item = TypeVar("Item")
 # What counts as lately.
 LATELY = "3 days ago"
 
@@ -20,9 +22,14 @@ def changed_lately(root: Path) -> set[str]:
     return set(ran.stdout.split())
 
 
+def rotated(items: list[Item], by: int) -> list[Item]:
+    """The items from this one on, and then those before it."""
+    first = by % max(len(items), 1)
+    return items[first:] + items[:first]
+
+
 def in_turn(crates: list[Crate], changed: Collection[str], day: int) -> list[Crate]:
     """The crates so that the last have the first turns on this day, by its number: those in which
     one of these files is, and then the others, each of them first on some day."""
-    first = day % max(len(crates), 1)
     touched = {file.split("/")[1] for file in changed if file.startswith("crates/")}
-    return sorted(crates[first:] + crates[:first], key=lambda it: it.name in touched)
+    return sorted(rotated(crates, day), key=lambda it: it.name in touched)

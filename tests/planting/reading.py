@@ -107,22 +107,30 @@ def bugs_of(crate: Path) -> dict[str, list[Edit]]:
 
 
 def edited(edits: list[Edit], crate: Path) -> dict[str, str]:
-    """The texts of the crate's files with these edits, made one after another."""
-    were: dict[str, str] = {}
-    texts: dict[str, str] = {}
-    for file, old, new in edits:
+    """The texts of the crate's files with these edits of a bug."""
+    for file in (it.file for it in edits):
         if os.path.normpath(file) != file or not file.startswith(("src/", "specs/", "proofs/")):
             raise Misplaced(f"{file} is no path below src/, specs/ or proofs/")
         if not (crate / file).is_file():
             raise Misplaced(f"there is no file {file}")
-        if file not in were:
-            texts[file] = were[file] = (crate / file).read_text(encoding="utf-8")
+    texts = made(edits, crate)
+    if all((crate / file).read_text(encoding="utf-8") == it for file, it in texts.items()):
+        raise Misplaced("it changes nothing")
+    return texts
+
+
+def made(edits: list[Edit], folder: Path) -> dict[str, str]:
+    """The texts of the folder's files with these edits, made one after another. A file that is not
+    there has no text."""
+    texts: dict[str, str] = {}
+    for file, old, new in edits:
+        path = folder / file
+        if file not in texts:
+            texts[file] = path.read_text(encoding="utf-8") if path.is_file() else ""
         count = texts[file].count(old)
         if count != 1:
             raise Misplaced(f"an old text is in {file} {count} times, and not once: {old}")
         texts[file] = texts[file].replace(old, new)
-    if texts == were:
-        raise Misplaced("it changes nothing")
     return texts
 
 

@@ -1,10 +1,11 @@
 """The definitions of a repository, and which of them each one names."""
 
+import functools
 import re
 from collections.abc import Iterable, Iterator
 from pathlib import Path
 
-from theorem.code import Code
+from theorem.code import TYPE, VARIANT, Code
 from theorem.imports import Place, code_of
 from theorem.specs import Source, free
 from theorem.terms import Walk, words
@@ -22,21 +23,14 @@ class Sources:
 
     def __init__(self, crates: Path) -> None:
         self.crates = crates
-        self.specs: dict[str, Source] = {}
-        self.codes: dict[str, Code] = {}
-        self.named: dict[Place, set[Place]] = {}
+        # a file of specs/, one of src/, and the definitions that one names
+        self.spec = functools.cache(functools.partial(Source, crates))
+        self.code = functools.cache(functools.partial(Code, crates))
+        self.names = functools.cache(lambda place: {*self.named_in(place)} - {place})
 
-    def spec(self, file: str) -> Source:
-        """A file of specs/."""
-        if file not in self.specs:
-            self.specs[file] = Source(self.crates, file)
-        return self.specs[file]
-
-    def code(self, file: str) -> Code:
-        """A file of src/."""
-        if file not in self.codes:
-            self.codes[file] = Code(self.crates, file)
-        return self.codes[file]
+    def files(self, pattern: str) -> list[str]:
+        """The files below the folder that match."""
+        return sorted(it.relative_to(self.crates).as_posix() for it in self.crates.glob(pattern))
 
     def is_constructor(self, file: str, word: str) -> bool:
         """Whether a word of a file is a constructor; of a library each is taken to be one."""
@@ -81,12 +75,6 @@ class Sources:
             elif not BUILT_IN.fullmatch(first):
                 raise Unknown(f"{file}: {word}")
 
-    def names(self, place: Place) -> set[Place]:
-        """The definitions that one names."""
-        if place not in self.named:
-            self.named[place] = {*self.named_in(place)} - {place}
-        return self.named[place]
-
     def named_in(self, place: Place) -> Iterator[Place]:
         """The definitions that stand in one; none in those of a library."""
         if place.file.endswith(".antt"):
@@ -103,8 +91,9 @@ class Sources:
         if value is not None:
             yield from self.referred_to(place.file, Walk().names(words(value)))
             return
-        found = [self.type_of(place.file, it) for it in code.types_in(name)]
-        yield from (it for it in found if it)
+        text = code.declaration(name)
+        types = TYPE.findall(VARIANT.sub("", text) if text.startswith("enum") else text)
+        yield from filter(None, [self.type_of(place.file, it) for it in types])
 
     def type_of(self, file: str, name: str) -> Place | None:
         """Where a type is declared that a file of the code names; None for those of libraries."""
