@@ -22,11 +22,8 @@ def shown(place: Place) -> str:
 
 def listed_by(sources: Sources, items: list[Item]) -> set[Place]:
     """All that some items list."""
-    found: set[Place] = set()
-    for item in items:
-        for selection in item.selections:
-            found |= selection.places(sources)
-    return found
+    chosen = (selection.places(sources) for item in items for selection in item.selections)
+    return set[Place]().union(*chosen)
 
 
 def out_of_order(sources: Sources, items: list[Item], promise: Promise) -> Iterator[str]:
@@ -63,11 +60,6 @@ def misplaced(
         yield f"{shown(it)} comes up to item {last}, but the headline does not need it"
 
 
-def files_of(places: set[Place]) -> set[Place]:
-    """Their files."""
-    return {Place(it.file, "") for it in places}
-
-
 def misnamed(sources: Sources, items: list[Item], promises: list[Promise]) -> Iterator[str]:
     """What the items name that is not there."""
     for item in items:
@@ -79,7 +71,7 @@ def misnamed(sources: Sources, items: list[Item], promises: list[Promise]) -> It
 
 def miscited(sources: Sources, page: str, promises: list[Promise]) -> Iterator[str]:
     """What the page says wrongly of contracts, and the functions that it does not name."""
-    for function, clause, file, definition in pages.cited(page):
+    for function, clause, file, definition in pages.CITED.findall(" ".join(page.split())):
         contract = Contract(file, function, (clause,) if clause else ())
         try:
             names = {it.name for it in rests_on(sources, [contract])}
@@ -112,8 +104,10 @@ def complaints(
         own = [it for it in items if it.title == promise.title]
         needed, listed = rests_on(sources, promise.begins, promise.skipped), listed_by(sources, own)
         if promise.title:
-            needed, listed = needed - read, files_of(listed)
-            yield from differences(promise.title, files_of(needed) - files_of(read), listed)
+            of_read, of_needed, of_listed = (
+                {Place(it.file, "") for it in places} for places in (read, needed - read, listed)
+            )
+            yield from differences(promise.title, of_needed - of_read, of_listed)
         else:
             needed_here = as_listed(needed)
             yield from differences("the numbered items", needed_here, listed)
@@ -123,11 +117,3 @@ def complaints(
     size = size_of(sources, of_headline)
     if not said or any(it > most for it, most in zip(size, said)):
         yield f"the headline rests on {size}, but the page says {said}"
-
-
-def sizes(sources: Sources) -> Iterator[str]:
-    """How much each promise needs."""
-    yield f"Headline: {size_of(sources, rests_on(sources, [HEADLINE]))}"
-    for it in PROMISES:
-        size = size_of(sources, rests_on(sources, it.begins, it.skipped))
-        yield f"{it.title or 'A vault'}: {size}"

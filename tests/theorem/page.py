@@ -25,7 +25,8 @@ NUMBERS = re.compile(
     r"and on (\d+) types and constants of the code: items 1 to (\d+)"
 )
 
-# A function, a clause of its contract, its file, and a definition on which that rests.
+# A function, a clause of its contract if any is named, its file, and a definition on which that
+# rests, if any is.
 CITED = re.compile(
     r"`(?:\w+::)?(\w+)`(?:, clause `(\w+)`)?(?:, whose contract is `\w+`)? "
     r"\(crates/([\w/]+\.rt)(?:; (?:`(\w+)`|[\w/]+))?\)"
@@ -93,12 +94,6 @@ def items(crates: Path, page: str) -> list[Item]:
     section = SECTION.search(page)
     found = ITEM.findall(section[0] if section else "")
     return [Item(title, [*selections(crates, text)]) for title, text in found]
-
-
-def cited(page: str) -> list[tuple[str, str, str, str]]:
-    """The contracts that a page names: function, clause, file and definition, each of which but
-    the function and the file may be empty."""
-    return CITED.findall(" ".join(page.split()))
 
 
 def numbers(page: str) -> list[int]:

@@ -33,19 +33,20 @@ class Promise(NamedTuple):
     skipped: frozenset[Place] = frozenset()
 
 
-def listed(row: str) -> Place | Contract:
-    """A definition, or a contract, of a row of the list."""
-    file, name, *clauses = row.split()
-    return Place(file, name) if file.endswith(".antt") else Contract(file, name, tuple(clauses))
-
-
 def promise_of(paragraph: str) -> Promise:
     """A promise of the list; the numbered items have no title."""
     title, *rows = [row for row in paragraph.splitlines() if row[0] != "#"]
+    begins: list[Place | Contract] = []
+    skipped: list[Place] = []
+    for file, name, *more in map(str.split, rows):
+        if file == "but":
+            skipped.append(Place(name, *more))
+        elif file.endswith(".antt"):
+            begins.append(Place(file, name))
+        else:
+            begins.append(Contract(file, name, tuple(more)))
     title = title.removeprefix("The numbered items")
-    begins = tuple(listed(row) for row in rows if not row.startswith("but "))
-    skipped = (Place(*row.split()[1:]) for row in rows if row.startswith("but "))
-    return Promise(title, begins, frozenset(skipped))
+    return Promise(title, tuple(begins), frozenset(skipped))
 
 
 LIST = Path(__file__).with_suffix(".txt").read_text(encoding="utf-8")
@@ -82,10 +83,11 @@ def rests_on(
     skipped: frozenset[Place] = frozenset(),
 ) -> set[Place]:
     """All on which something rests."""
-    named: set[Place] = set()
-    for it in begins:
-        named |= named_by(sources, it) if isinstance(it, Contract) else {sources.defined(it)}
-    return closure(sources, named, skipped)
+    named = (
+        named_by(sources, it) if isinstance(it, Contract) else {sources.defined(it)}
+        for it in begins
+    )
+    return closure(sources, set[Place]().union(*named), skipped)
 
 
 class Size(NamedTuple):

@@ -15,7 +15,7 @@ from pathlib import Path
 from checking import Tests, same
 from planting.reading import Edit, entries_in, made, unpacked
 from running import ROOT
-from theorem.compared import complaints, sizes
+from theorem.compared import complaints
 from theorem.imports import Place
 from theorem.promises import PROMISES, Contract, Promise
 from theorem.public import promised
@@ -42,10 +42,8 @@ Teller = Callable[[Path], Iterator[str]]
 def is_listed(crates: Path) -> None:
     """The page has what the promises rest on, and says how much the headline needs."""
     page = (ROOT / "docs" / "THEOREM.md").read_text(encoding="utf-8")
-    sources = Sources(crates)
-    found = [*complaints(sources, page)]
-    print(*(f"  {line}" for line in [*sizes(sources), *found]), sep="\n")
-    assert not found, "another list than the page's"
+    found = [*complaints(Sources(crates), page)]
+    assert not found, "\n    ".join(["another list than the page's", *found])
 
 
 def misplaced(crates: Path, page: Iterable[Place | Contract] = ()) -> Iterator[str]:

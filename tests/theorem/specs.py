@@ -15,11 +15,6 @@ COMMENT = re.compile(rf'^((?:[^"]|{QUOTED})*?)(?:^|(?<=\s))--(?:\s.*)?$')
 CONTINUES = (" ", "}", ")")
 
 
-def without_comment(row: str) -> str:
-    """A row without its comment."""
-    return COMMENT.sub(r"\1", row).rstrip()
-
-
 @dataclass
 class Definition:
     """A record, a data type or a function, with the parameters of the module that it stands in."""
@@ -53,7 +48,7 @@ class Source:
         text = (crates / file).read_text(encoding="utf-8")
         self.imports = Imports(crates, text)
         self.definitions: dict[str, Definition] = {}
-        self.read([without_comment(row) for row in text.splitlines()])
+        self.read([COMMENT.sub(r"\1", row).rstrip() for row in text.splitlines()])
         found = self.definitions.values()
         self.constructors = {name: it.name for it in found for name in it.constructors()}
         # what each word of the file stands for that is defined in it
@@ -66,12 +61,11 @@ class Source:
         parameters = margin = ""
         current = Definition("", "", "")
         for row in filter(None, rows):
+            if row.startswith("module "):
+                parameters, margin = row.removeprefix("module _").removesuffix("where"), "  "
+                continue
             if not row.startswith(CONTINUES):
-                is_module = row.startswith("module ")
-                parameters = row.removeprefix("module _").removesuffix("where") if is_module else ""
-                margin = "  " if is_module else ""
-                if is_module:
-                    continue
+                parameters = margin = ""
             if NOTHING_DEFINED.match(row):
                 continue
             inner = row.removeprefix(margin)

@@ -37,21 +37,14 @@ class Walk:
         # how many brackets are open where a λ binds names
         self.binding: int | None = None
 
-    def open(self, names: list[str]) -> None:
-        """A bracket that binds these names behind it."""
-        self.brackets.append((len(self.bound), names))
-
-    def close(self) -> None:
-        """Its end: what was bound within is bound no longer."""
-        count, names = self.brackets.pop()
-        self.bound = self.bound[:count] + names
-
     def mark(self, word: str, tokens: list[str], at: int) -> None:
         """Takes account of a bracket or a mark."""
         if word in OPEN:
-            self.open(bound_by(tokens, at))
+            self.brackets.append((len(self.bound), bound_by(tokens, at)))
         elif word in CLOSE:
-            self.close()
+            # what was bound within is bound no longer
+            count, names = self.brackets.pop()
+            self.bound = self.bound[:count] + names
         elif word in {";", ","} and self.brackets:
             self.bound = self.bound[: self.brackets[-1][0]]
         elif word == "λ":
