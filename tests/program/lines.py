@@ -1,14 +1,14 @@
-"""Lines and their answers: those that stand in lines/, and those of many forms or of many lines.
-Each answer is written by hand from docs/PROTOCOL.md."""
+"""Lines and their answers: the worked cases of tests/cases, those that stand in lines/, and those of
+many forms or of many lines. Each answer is written by hand from docs/PROTOCOL.md."""
 
 import json
-from collections.abc import Iterable, Iterator
+from collections.abc import Iterable
 from pathlib import Path
-from typing import NamedTuple
 
+from checking import Tests, parametrised, same, shown
 from faults.line_faults import Field, names, object_of
 from models.reading import EVENTS
-from running import joined
+from running import ROOT, joined, ran
 from transcripts import Pair, Transcript, transcripts
 
 HERE = Path(__file__).parent / "lines"
@@ -31,7 +31,7 @@ LOOK = b'{"at":1,"op":"look"}'
 SEEN = b'{"edges":[[2,"tg"]],"ok":"edges"}'
 
 GOOD = {"name": '"alice"', "rights": '"r"', "over": "3", "from": "2", "to": "2"}
-GOOD |= {"kind": '"document"', "text": '"hi"', "at": "1", "agent": "2", "seat": "0"}
+GOOD |= {"kind": '"document"', "text": '"hi"', "at": "1", "agent": "2", "seat": "0", "actor": "1"}
 
 BAD_NUMBERS = ["-1", "-0", "1.5", "2.0", "2e0", "18446744073709551616", '"1"', "null", "true"]
 BAD_NUMBERS += ["[1]", "{}"]
@@ -48,97 +48,105 @@ NO_NAMES = ['""', '"Carol"', '"carol1"', '"ca rol"', '"carol "', '"é"', '"a\\u0
 NO_NAMES.append(f'"{"a" * 33}"')
 
 
-class Case(NamedTuple):
-    """A run: its words, its input, and the output and the status that are wanted."""
-
-    name: str
-    words: list[str]
-    given: bytes
-    wanted: bytes
-    status: int
-
-
-Cases = Iterator[Case]
+@parametrised
+def answered(program: Path, words: list[str], given: bytes, wanted: bytes, status: int) -> None:
+    """The run writes what is wanted and ends with the status; if not, its input is printed too."""
+    found = ran(program, *words, given=given, timeout=120)
+    try:
+        same((found.stdout, found.returncode), (wanted, status))
+    except AssertionError:
+        print(f"  input: {shown(given)}\n  on standard error: {shown(found.stderr)}")
+        raise
 
 
-def line_of(op: str, but: Iterable[str] = (), extra: Iterable[Field] = ()) -> bytes:
+def cases() -> Tests:
+    """The worked cases."""
+    for folder in sorted((ROOT / "tests" / "cases").iterdir()):
+        words, status = (
+            file.read_text() if file.exists() else default
+            for file, default in ((folder / "args", "run"), (folder / "status", "0"))
+        )
+        given, wanted = ((folder / file).read_bytes() for file in ("stdin", "stdout"))
+        yield folder.name, answered(words.split(), given, wanted, int(status))
+
+
+def line_of(op: str, *extra: Field, but: Iterable[str] = (), more: Iterable[str] = ()) -> bytes:
     """The line of an op with good fields, without some and with others."""
-    fields = [(name, GOOD[name]) for name in EVENTS[op] if name not in but]
+    fields = [(name, GOOD[name]) for name in [*more, *EVENTS[op]] if name not in but]
     return object_of([("op", f'"{op}"'), *fields, *extra])
 
 
-def case_of(name: str, found: Transcript) -> Case:
+def case_of(name: str, found: Transcript) -> Tests:
     """A run, or what the words say."""
-    return Case(name, found.words or ["run"], found.given, found.wanted, found.status)
+    yield name, answered(found.words or ["run"], found.given, found.wanted, found.status)
 
 
-def run(name: str, *pairs: Pair) -> Case:
+def run(name: str, *pairs: Pair) -> Tests:
     """A run of alice's session."""
     lines, answers = zip((HELLO, WELCOME), *pairs)
     return case_of(name, Transcript([CONFIG, *lines], [*answers]))
 
 
-def refused_opening(name: str, line: bytes, answer: bytes) -> Case:
+def refused_opening(name: str, line: bytes, answer: bytes) -> Tests:
     """A configuration line that is refused, which ends the run."""
     return case_of(name, Transcript([line, HELLO], [answer]))
 
 
-def written() -> Cases:
+def written() -> Tests:
     """Those that stand in files."""
     runs = ("session", "openings", "audits", "questions", "questions_of_runs")
     for file in (*runs, "pictures", "words", "servers"):
         for name, found in transcripts(HERE / f"{file}.txt").items():
-            yield case_of(name, found)
+            yield from case_of(name, found)
     for name, found in transcripts(HERE / "refused.txt").items():
-        yield run(name, *found.pairs, (LOOK, SEEN))
+        yield from run(name, *found.pairs, (LOOK, SEEN))
     for name, found in transcripts(HERE / "refused_openings.txt").items():
-        yield refused_opening(name, *found.lines, *found.answers)
+        yield from refused_opening(name, *found.lines, *found.answers)
 
 
-def refusals() -> Cases:
+def refusals() -> Tests:
     """Each fault of each field of an op."""
     for op, fields in EVENTS.items():
-        for name in fields:
-            yield run(f"missing-{name}-of-{op}", (line_of(op, but=[name]), MISSING), (LOOK, SEEN))
+        refused = [(f"missing-{name}-of-{op}", line_of(op, but=[name]), MISSING) for name in fields]
         for name in fields + ["seat"]:
             for value in BAD_VALUES[name] + (NO_NAMES if (op, name) == ("enrol", "name") else []):
-                line = line_of(op, but=[name], extra=[(name, value)])
-                shown = value if len(value) < 30 else "long"
-                yield run(f"bad-{name}-of-{op}-{shown}", (line, BAD), (LOOK, SEEN))
+                line = line_of(op, (name, value), but=[name])
+                short = value if len(value) < 30 else "long"
+                refused.append((f"bad-{name}-of-{op}-{short}", line, BAD))
         for name, field in (("unknown-field-of", "x"), ("actor-in", "actor")):
-            line = line_of(op, extra=[(field, "1")])
-            yield run(f"{name}-{op}", (line, UNKNOWN_FIELD), (LOOK, SEEN))
+            refused.append((f"{name}-{op}", line_of(op, (field, "1")), UNKNOWN_FIELD))
+        for name, line, answer in refused:
+            yield from run(name, (line, answer), (LOOK, SEEN))
     ops = [op for op in EVENTS if op not in ("hello", "collect", "cycle")]
-    yield run("no-actor", *[(line_of(op, extra=[("seat", "1")]), NO_ACTOR) for op in ops])
+    yield from run("no-actor", *[(line_of(op, ("seat", "1")), NO_ACTOR) for op in ops])
 
 
-def ended(name: str, given: bytes, answer: bytes, begin: bytes = joined(CONFIG, HELLO)) -> Case:
-    """A run that ends with one answer, behind the one to alice's hello if that is how it begins."""
-    answers = [answer] if answer else []
-    welcome = [WELCOME] if HELLO in begin else []
-    status = int(b'"error"' in answer)
-    return Case(name, ["run"], begin + given, joined(*welcome, *answers), status)
-
-
-def ends() -> Cases:
+def ends() -> Tests:
     """Where the lines end, and how many they are."""
-    yield ended("no-line-at-all", b"", NOT_JSON, b"")
-    yield ended("an-empty-line-alone", b"\n", NOT_JSON, b"")
-    yield run("error-after-many-lines", *[(LOOK, SEEN)] * 1_001, (b"", NOT_JSON))
-    yield ended("last-line-without-a-line-feed", LOOK, SEEN)
-    yield ended("configuration-without-a-line-feed", CONFIG, b"", b"")
-    yield ended("line-feed-at-the-end-begins-no-line", b"", b"")
-    yield ended("two-line-feeds-at-the-end-are-an-empty-line", b"\n", NOT_JSON)
-    yield ended("last-line-too-long-without-a-line-feed", b"x" * 100000, TOO_LONG)
+    yield from run("error-after-many-lines", *[(LOOK, SEEN)] * 1_001, (b"", NOT_JSON))
+    opened, config, welcome = joined(CONFIG, HELLO), joined(CONFIG), joined(WELCOME)
+    refused = joined(NOT_JSON)
     # The configuration line counts, so that the line after the millionth is the millionth after it.
-    most, last = joined(NOT_JSON) * 999999, joined(NOT_JSON) * 999999 + joined(TOO_MANY)
-    for name, given, wanted in [
-        ("a-million-lines", b"\n" * 999999, most),
-        ("the-line-after-the-millionth", b"\n" * 1000000, last),
-        ("a-long-line-after-the-millionth", b"\n" * 999999 + b"x" * 20000, last),
-        ("more-lines-after-the-millionth", b"\n" * 1000005, last),
+    most, last = refused * 999999, refused * 999999 + joined(TOO_MANY)
+    for name, given, wanted, status in [
+        ("no-line-at-all", b"", refused, 1),
+        ("an-empty-line-alone", b"\n", refused, 1),
+        ("last-line-without-a-line-feed", opened + LOOK, welcome + joined(SEEN), 0),
+        ("configuration-without-a-line-feed", CONFIG, b"", 0),
+        ("line-feed-at-the-end-begins-no-line", opened, welcome, 0),
+        ("two-line-feeds-at-the-end-are-an-empty-line", opened + b"\n", welcome + refused, 1),
+        (
+            "last-line-too-long-without-a-line-feed",
+            opened + b"x" * 100000,
+            welcome + joined(TOO_LONG),
+            1,
+        ),
+        ("a-million-lines", config + b"\n" * 999999, most, 1),
+        ("the-line-after-the-millionth", config + b"\n" * 1000000, last, 1),
+        ("a-long-line-after-the-millionth", config + b"\n" * 999999 + b"x" * 20000, last, 1),
+        ("more-lines-after-the-millionth", config + b"\n" * 1000005, last, 1),
     ]:
-        yield Case(name, ["run"], joined(CONFIG) + given, wanted, 1)
+        yield name, answered(["run"], given, wanted, status)
 
 
 def opening(principals: list[str], *fields: Field) -> bytes:
@@ -146,25 +154,25 @@ def opening(principals: list[str], *fields: Field) -> bytes:
     return object_of([("principals", json.dumps(principals)), *fields])
 
 
-def configurations() -> Cases:
+def configurations() -> Tests:
     """Configuration lines with numbers that are none, and with as many principals as there may be,
     and more."""
     for field in ["next", "slots", "cells"]:
         for value in BAD_NUMBERS:
-            line = object_of([("principals", '["alice"]'), (field, value)])
-            yield refused_opening(f"configuration-{field}-{value}", line, BAD)
+            line = opening(["alice"], (field, value))
+            yield from refused_opening(f"configuration-{field}-{value}", line, BAD)
     refused = b'{"error":"config","fault":1}'
-    yield refused_opening("configuration-fault-65-principals", opening(names(65)), refused)
+    yield from refused_opening("configuration-fault-65-principals", opening(names(65)), refused)
     last = b'{"name":"%s","op":"hello"}' % names(64)[63].encode()
     most = Transcript([opening(names(64)), last], [b'{"ok":"hello","vertex":64}'])
-    yield case_of("configuration-of-64-principals", most)
+    yield from case_of("configuration-of-64-principals", most)
     enrol = b'{"name":"carol","op":"enrol","rights":"tg"}'
     crowded = b'{"cause":"crowded","denied":"enrol"}'
-    most = Transcript([opening(["alice", *names(63)], ("slots", "64"))])
-    yield case_of("crowded-before-full", most + Transcript([HELLO, enrol], [WELCOME, crowded]))
+    config = opening(["alice", *names(63)], ("slots", "64"))
+    most = Transcript([config, HELLO, enrol], [WELCOME, crowded])
+    yield from case_of("crowded-before-full", most)
 
 
-def tests() -> Cases:
-    """All runs."""
-    for group in (refusals, ends, configurations, written):
+def tests() -> Tests:
+    for group in (cases, refusals, ends, configurations, written):
         yield from group()
