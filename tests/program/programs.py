@@ -1,13 +1,14 @@
 """Runs that are more than an input and an output."""
 
 import itertools
+import os
 import re
 import select
-import shlex
 import subprocess
+import tempfile
 from pathlib import Path
 
-from checking import Test, Tests, named, parametrised, same
+from checking import Tests, named, parametrised, same
 from program.lines import HERE
 from running import ROOT, Word, asked, example, hear, ran, rest_of, started, tell, unreadable
 from server.servers import BYE, HELLO, PARTED, WELCOME
@@ -91,49 +92,32 @@ def helped(program: Path, named: list[str], *words: str) -> None:
     same([word for word in named if word not in found.stdout.decode()], [], "not named")
 
 
-def example_of(program: Path, named: list[str], *words: str) -> list[str]:
-    """The words of the one example that ends a help text, which names certain words before."""
+@parametrised
+def helped_by_example(
+    program: Path, wanted: bytes, named: list[str], *words: str, dot: str = ""
+) -> None:
+    """Help on standard output, status 0; it names certain words before the one example that ends
+    it, which writes what matches this, perhaps for Graphviz."""
     found = ran(program, *words, "--help")
     same((found.returncode, found.stderr), (0, b""))
     before, _, line = found.stdout.decode().partition("\nExample:\n")
     same([word for word in named if word not in before], [], "not named")
     same(line.count("\n"), 1, "lines of the example")
-    return shlex.split(line)
+    command, _, drawn = line.partition(" | dot ")
+    assert drawn.startswith(dot), drawn
+    with tempfile.TemporaryDirectory() as folder:
+        Path(folder, "tgdoc").symlink_to(program.resolve())
+        env = {"PATH": f"{folder}:{os.environ['PATH']}"}
+        done = subprocess.run(command, shell=True, cwd=ROOT, env=env, capture_output=True)
+    same(done.returncode, 0)
+    assert re.fullmatch(wanted, done.stdout, re.DOTALL), done.stdout
 
 
 @parametrised
-def help_with_a_file(program: Path, begins: bytes, named: list[str], *help_words: str) -> None:
-    """Help on standard output, status 0; its example answers the lines of a file."""
-    tgdoc, *words, sign, name = example_of(program, named, *help_words)
-    written, status = asked(program, *words, given=(ROOT / name).read_bytes())
-    same((tgdoc, sign, status), ("tgdoc", "<", 0))
-    assert written.startswith(begins), written
-
-
-def help_on_run(program: Path) -> None:
-    """Help on standard output, status 0; its example answers the lines of another command."""
-    words = example_of(program, ["run"], "run")
-    bar = words.index("|")
-    lines = subprocess.run(words[:bar], capture_output=True, check=True).stdout
-    same(words[bar + 1], "tgdoc")
-    same(asked(program, *words[bar + 2 :], given=lines), (WELCOME, 0))
-
-
-def help_on_draw(program: Path) -> None:
-    """Help on standard output, status 0; its example draws the lines of a file, for Graphviz."""
-    tgdoc, *words, sign, name, bar, dot, kind, into, _ = example_of(
-        program, ["draw", "--each"], "draw"
-    )
-    shell = ("tgdoc", "<", "|", "dot", "-Tsvg", ">")
-    same((tgdoc, sign, bar, dot, kind, into), shell)
-    written, status = asked(program, *words, given=(ROOT / name).read_bytes())
-    same((written[:7], written.count(b"\n"), status), (b"digraph", 1, 0))
-
-
-def derivation_of(name: str, answer: bytes, status: int) -> Test:
+def derivation_of(program: Path, name: str, answer: bytes, status: int) -> None:
     """The verdict on the derivation of an example."""
     given = (ROOT / "examples" / name).read_bytes()
-    return lambda program: same(asked(program, "audit", given=given), (answer, status))
+    same(asked(program, "audit", given=given), (answer, status))
 
 
 def demo_of(program: Path, *words: str) -> str:
@@ -187,38 +171,30 @@ def man_page(program: Path) -> None:
     same(words, ["run", "draw", "share", "audit", "serve", "control"])
 
 
-def tests_of_pipes() -> Tests:
-    """When a program reads and writes, and what it does if it cannot."""
+def tests() -> Tests:
     yield from named(answers_come_at_once)
     together = answered_together(HELLO + BYE + HELLO, WELCOME + PARTED + WELCOME, 0)
     yield "lines-in-one-write", together
     lines, bound = HELLO * 9_999 + BYE, b'{"error":"bound"}\n'
     many = answered_together(lines, WELCOME + bound * 9_998 + PARTED, 1, 1 << 20)
     yield "many-lines-before-any-answer-is-read", many
-    yield "input-that-cannot-be-read", input_that_cannot_be_read("run")
-    yield "input-of-an-audit-that-cannot-be-read", input_that_cannot_be_read("audit")
-    yield "input-of-a-picture-that-cannot-be-read", input_that_cannot_be_read("draw")
+    for kind, word in (("", "run"), ("-of-an-audit", "audit"), ("-of-a-picture", "draw")):
+        yield f"input{kind}-that-cannot-be-read", input_that_cannot_be_read(word)
     yield from named(no_verdict_before_the_end, refused_line_of_an_audit_is_answered_at_once)
     yield "verdict-that-cannot-be-written", lost("audit", DERIVATION, 1)
     yield "output-that-cannot-be-written", lost("run", CONFIG + HELLO * 1000, 1)
     yield "nothing-to-write", lost("run", CONFIG, 0)
-
-
-def tests_of_words() -> Tests:
-    """Command lines that are refused."""
     for name, found in transcripts(HERE / "refused_words.txt").items():
         yield name, refused(*found.words)
     yield "a-word-that-is-not-utf-8", refused(b"run\xff")
     yield "a-word-that-is-not-utf-8-behind-run", refused("run", b"\xff")
-
-
-def tests() -> Tests:
-    yield from tests_of_pipes()
-    yield from tests_of_words()
-    yield "help", help_with_a_file(WELCOME, ["run", "audit", "draw", "share", "serve"])
-    yield from named(help_on_run)
-    yield "help-on-audit", help_with_a_file(SHARED, ["audit"], "audit")
-    yield from named(help_on_draw, man_page, library_page)
+    welcome, commands = re.escape(WELCOME), ["run", "audit", "draw", "share", "serve"]
+    yield "help", helped_by_example(welcome + b".*", commands)
+    yield "help-on-run", helped_by_example(welcome, ["run"], "run")
+    yield "help-on-audit", helped_by_example(re.escape(SHARED) + b".*", ["audit"], "audit")
+    picture = helped_by_example(b"digraph[^\n]*\n", ["draw", "--each"], "draw", dot="-Tsvg > ")
+    yield "help-on-draw", picture
+    yield from named(man_page, library_page)
     yield "version", versioned("--version")
     yield "version-before-other-words", versioned("--version", "run", "now")
     yield "example-derivation", derivation_of("derivation.jsonl", SHARED, 0)

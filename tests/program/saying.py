@@ -7,12 +7,14 @@ import socket
 import subprocess
 from pathlib import Path
 
-from checking import Test, Tests, named, same
+from checking import Tests, named, parametrised, same
 from faults import faults
 from faults.faults import INTERRUPTED, Fault, Ran
+from program.lines import HERE
 from program.programs import CONFIG
 from running import Word, ran, started, unreadable
 from server.servers import ANY_PORT
+from transcripts import Transcript, transcripts
 
 LONG = b" " * 16_385 + b"\n"
 GOAL = b'{"from":1,"rights":"r","to":2}\n'
@@ -21,15 +23,14 @@ TWICE = b'{"principals":["alice","alice"]}\n'
 MALFORMED = b'{"principals":["Alice"]}\n'
 
 
-def says(wanted: bytes, *words: str, given: bytes = CONFIG, output: str = os.devnull) -> Test:
+@parametrised
+def says(
+    program: Path, wanted: bytes, *words: str, given: bytes = CONFIG, output: str = os.devnull
+) -> None:
     """Standard error has exactly this, and the status is 1."""
-
-    def test(program: Path) -> None:
-        with open(output, "wb") as out:
-            found = ran(program, *words, given=given, stdout=out)
-        same((found.stderr, found.returncode), (wanted, 1))
-
-    return test
+    with open(output, "wb") as out:
+        found = ran(program, *words, given=given, stdout=out)
+    same((found.stderr, found.returncode), (wanted, 1))
 
 
 def no_input_to_read(program: Path) -> None:
@@ -41,47 +42,12 @@ def no_input_to_read(program: Path) -> None:
     assert found.stderr.startswith(begin), found.stderr
 
 
-BAD = b"bad value in the field "
-OTHER = b"this op has no field "
-# Lines of a run, and what is said of them: nothing if they are not refused for themselves.
-EVENTS: list[tuple[bytes, bytes | None]] = [
-    (b'{"op":"hello","name":"alice"}', None),
-    (b'{"op":"read","over":9}', None),
-    (b"no json", b"not one JSON value in UTF-8"),
-    (b"[]", b"not an object"),
-    (b'{"op":"shutdown"}', b"unknown or missing op"),
-    (b'{"from":1}', b"unknown or missing op"),
-    (b'{"op":"take","rights":"r","over":2}', b"missing field from"),
-    (b'{"op":"take","rights":"rr","over":"x","from":1}', BAD + b"rights"),
-    (b'{"op":"look","at":1,"seat":"0"}', BAD + b"seat"),
-    (b'{"op":"look","at":1,"to":2}', OTHER + b"to"),
-    (b'{"op":"write","over":2,"text":"%s"}' % (b"a" * 4_097), BAD + b"text"),
-    (b'{"op":"create","kind":"folder","rights":"r"}', BAD + b"kind"),
-    (b'{"op":"enrol","name":"Bob","rights":"r"}', BAD + b"name"),
-    (b'{"op":"bye","\\u001b[31mred\\nline 99":1}', OTHER + rb"\u{1b}[31mred\nline 99"),
-    (b'{"op":"bye"}', None),
-]
-
-STEPS: list[tuple[bytes, bytes | None]] = [
-    (b'{"op":"create","kind":"document","rights":"r"}', b"missing field actor"),
-    (b'{"op":"enrol","actor":1,"name":"bob","rights":"r"}', b"unknown or missing op"),
-    (b'{"op":"create","actor":1,"kind":"document","rights":"r","seat":0}', OTHER + b"seat"),
-]
-MADE = b'{"op":"create","actor":1,"kind":"document","rights":"r"}'
-
-
-def explains(word: str, head: bytes, rows: list[tuple[bytes, bytes | None]]) -> Test:
+@parametrised
+def explained(program: Path, told: Transcript) -> None:
     """Each refused line is explained, by its number; the answers are as without explanations."""
-
-    def test(program: Path) -> None:
-        given = head + b"".join(line + b"\n" for line, _ in rows)
-        numbered = enumerate(rows, head.count(b"\n") + 1)
-        wanted = b"".join(b"line %d: %s\n" % (number, why) for number, (_, why) in numbered if why)
-        found, plain = ran(program, word, "--explain", given=given), ran(program, word, given=given)
-        same((found.stderr, plain.stderr), (wanted, b""))
-        same((found.stdout, found.returncode), (plain.stdout, plain.returncode))
-
-    return test
+    found, plain = (ran(program, *told.words, *it, given=told.given) for it in (["--explain"], []))
+    same((found.stderr, plain.stderr), (told.wanted, b""))
+    same((found.stdout, found.returncode), (plain.stdout, plain.returncode))
 
 
 def last_line_explained(program: Path) -> None:
@@ -144,9 +110,9 @@ def port_in_use_explained(program: Path) -> None:
     assert said.startswith(f"tgdoc: {address}: Address already in use"), said
 
 
-def not_served(wanted: bytes, *words: str, given: bytes = CONFIG) -> Test:
-    """What is said of a server that does not serve."""
-    return lambda program: same(last_said(program, *words, given=given), wanted)
+@parametrised
+def not_served(program: Path, wanted: bytes, *words: str, given: bytes = CONFIG) -> None:
+    same(last_said(program, *words, given=given), wanted)
 
 
 def interrupted_calls_are_no_failures(program: Path) -> None:
@@ -196,14 +162,11 @@ def tests() -> Tests:
     said = b"tgdoc: here is no address with a port, as 127.0.0.1:7000 is"
     yield "address-that-is-none-explained", not_served(said, "--listen", "here")
     for name, given in (("configuration", TWICE), ("malformed-name", MALFORMED)):
-        unserved = not_served(names.rstrip(), *ANY_PORT, given=given)
-        yield f"{name}-explained-for-serve", unserved
+        refused = not_served(names.rstrip(), *ANY_PORT, given=given)
+        yield f"{name}-explained-for-serve", refused
     yield from named(port_in_use_explained, waits_for_its_configuration)
     yield from named(interrupted_calls_are_no_failures)
-    yield "lines-explained", explains("run", CONFIG, EVENTS)
-    for number, step in enumerate(STEPS, 1):
-        # an audit ends at the first step that is refused
-        rows = [(MADE, None), step, (b"x", None)]
-        yield f"refused-step-{number}-explained", explains("audit", CONFIG + GOAL, rows)
+    for name, told in transcripts(HERE / "explained.txt").items():
+        yield name, explained(told)
     yield from named(last_line_explained, lines_behind_the_last_unexplained)
     yield from named(no_other_field_blamed_without_memory, nothing_else_explained)
