@@ -61,7 +61,6 @@ def names_pick_tests(program: Path) -> None:
 
 
 def tests() -> Tests:
-    """All tests by their names; they take the runner of planted bugs."""
     yield from own_tests.tests()
     yield from named(edits_of_a_crate_are_told_apart, bugs_without_time_are_counted)
     yield from named(names_pick_tests)

@@ -35,7 +35,6 @@ BEGIN, PROBES = (it.lines for it in transcripts(Path(__file__).with_suffix(".txt
 
 
 def config_of(source: Random) -> bytes:
-    """A configuration line, with faults in its values or in the line."""
     fields = fields_of(source, "config")
     return with_faults(source, fields) if source.random() < 0.5 else object_of(fields)
 
@@ -66,7 +65,6 @@ def lines_of_a_run(source: Random) -> tuple[list[bytes], int]:
 
 
 def check_run(program: Path, source: Random, config: bytes, lines: list[bytes]) -> None:
-    """A run, with each of its answers."""
     end = b"" if lines[-1:] != [b""] and source.random() < 0.5 else b"\n"
     written, status = asked(program, "run", given=b"\n".join([config, *lines]) + end)
     opened, refusal = read_or_refused(read_config, config)
@@ -113,7 +111,6 @@ def verdict_wanted(rows: list[bytes]) -> bytes:
 
 
 def check_audit(program: Path, source: Random) -> None:
-    """An audit, with its answer."""
     rows = rows_of_an_audit(source)
     wanted = verdict_wanted(rows)
     status = int(wanted != b'{"verdict":"shared"}')

@@ -138,7 +138,6 @@ def aimed(source: Random, graph: Graph, actor: int, event: Event) -> Event:
 
 
 def command(source: Random, graph: Graph, actor: int, ops: list[str]) -> Event:
-    """A command of the actor, one of these ops."""
     is_poor = len(graph.edges(actor)) < 2 and source.random() < 0.4
     event = at_random(source, graph, "create" if is_poor else source.choice(ops))
     is_aimed = source.random() < 0.85 and event.get("rights") != ""
@@ -252,7 +251,6 @@ def printed_if_wrong(what: str, rows: list[bytes]) -> Iterator[None]:
 
 @parametrised
 def random_runs(program: Path, count: int) -> None:
-    """This many random runs of each seed, every answer checked."""
     seen: Counter[str] = Counter()
     for name, source in sources(count, ""):
         config = line_of(opening(source))
@@ -264,7 +262,6 @@ def random_runs(program: Path, count: int) -> None:
 
 
 def is_possible(graph: Graph, step: Event) -> bool:
-    """Whether a step can be carried out."""
     if graph.kinds.get(step["actor"]) != "subject" or graph.denial(step["actor"], step):
         return False
     return step["op"] != "create" or graph.next < NONE_LEFT

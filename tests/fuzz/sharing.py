@@ -30,12 +30,10 @@ TOO_MUCH = b'{"error":"too much"}\n'
 
 
 def shared(program: Path, given: bytes, *words: str) -> tuple[bytes, int]:
-    """What `share` writes, and its status."""
     return asked(program, "share", *words, given=given)
 
 
 def audited(program: Path, given: bytes) -> bytes:
-    """What `audit` writes."""
     return asked(program, "audit", given=given)[0]
 
 
@@ -85,7 +83,6 @@ def vertex(source: Random, graph: Graph) -> tuple[str, int]:
 
 
 def has(closed: Closure, start: int, rights: str, end: int) -> bool:
-    """Whether one vertex has the rights over another in a closure."""
     return start != end and set(rights) <= closed[start].get(end, set())
 
 
@@ -149,7 +146,6 @@ def check_lookup(program: Path, source: Random, run: Drawn) -> None:
 
 @parametrised
 def random_graphs(program: Path, count: int) -> None:
-    """This many random graphs of each seed, every answer checked."""
     seen: Counter[str] = Counter()
     for name, source in sources(count, "sharing/"):
         run = drawn(source)

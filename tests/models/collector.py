@@ -39,13 +39,11 @@ class Store:
             self.link(start, end)
 
     def slot(self, serial: int) -> Slot:
-        """The slot of a vertex that is held."""
         found = self.slots[self.where[serial]]
         assert found, f"vertex {serial} has no slot"
         return found
 
     def link(self, start: int, end: int) -> None:
-        """A new edge."""
         self.slot(start).cells.insert(0, end)
         self.cells -= 1
 
@@ -58,7 +56,6 @@ class Store:
         self.cells += 1
 
     def make(self, start: int, serial: int) -> None:
-        """A new vertex, with an edge to it."""
         place = self.free.pop(0)
         colour = "black" if self.phase == "sweep" and place >= self.at else "white"
         self.slots[place], self.where[serial] = Slot(serial, colour), place

@@ -144,7 +144,6 @@ class Graph:
         return "crowded" if len(self.names) >= MOST_PRINCIPALS else None
 
     def refusal(self, event: Event) -> str | None:
-        """Why the seat of an event refuses it."""
         op, seat = event["op"], event["seat"]
         if seat >= SEATS:
             return "no seat"
@@ -225,7 +224,6 @@ class Graph:
 
 
 def verdict(config: Config, goal: Event, steps: list[Event]) -> Answer:
-    """The verdict on a derivation."""
     graph = Graph(config)
     for index, step in enumerate(steps):
         if graph.kinds.get(step["actor"]) != "subject":

@@ -40,7 +40,6 @@ class Owner:
         return {"op": name, "seat": 0, **dict(zip(COMMANDS[name], arguments))}
 
     def denial(self, name: str, arguments: Arguments) -> Answer | None:
-        """Why a command is denied, None if it is allowed."""
         return self.graph.denial(self.actor, self.event(name, arguments))
 
     def value(self, name: str, arguments: Arguments, serial: int) -> Any:

@@ -102,15 +102,11 @@ def levels(text: str) -> int:
 
 
 DECODER = json.JSONDecoder(
-    parse_int=number,
-    parse_float=number,
-    parse_constant=no_constant,
-    object_pairs_hook=members,
+    parse_int=number, parse_float=number, parse_constant=no_constant, object_pairs_hook=members
 )
 
 
 def read_object(line: bytes) -> Event:
-    """The object that a line is."""
     if len(line) > LONGEST_LINE:
         raise Refused("line too long")
     try:
@@ -196,19 +192,16 @@ def op_of(value: Event, ops: Collection[str]) -> str:
 
 
 def read_event(line: bytes) -> Event:
-    """An event line of a run, with its seat."""
     value = read_object(line)
     return {"seat": 0, **with_fields(value, ["op", *EVENTS[op_of(value, EVENTS)]], ["seat"])}
 
 
 def read_step(line: bytes) -> Event:
-    """A step line of an audit."""
     value = read_object(line)
     return with_fields(value, ["op", "actor", *STEPS[op_of(value, STEPS)]])
 
 
 def read_goal(line: bytes) -> Event:
-    """The goal line of an audit."""
     return with_fields(read_object(line), ["from", "to", "rights"])
 
 

@@ -104,7 +104,6 @@ class Run:
         return self.ended() if ended else None
 
     def ended(self) -> str | None:
-        """What is wrong at the end of a cycle."""
         if self.is_alone:
             fewest, most = self.cells_in_use()
             late = self.shaded_late()

@@ -169,7 +169,6 @@ class Bug:
 
 
 def planted(crate: Crate) -> list[Bug]:
-    """The bugs of the crate's planted/."""
     folder, found = Path(crate.folder), []
     for name, edits in reading.bugs_of(folder).items():
         try:
@@ -180,7 +179,6 @@ def planted(crate: Crate) -> list[Bug]:
 
 
 def must_fail(crate: Crate) -> list[Bug]:
-    """The bugs of the crate's must-fail/, each an edit in the toolchain's form."""
     found = []
     for file in sorted(Path(crate.folder, "must-fail").glob("*.edit")):
         texts, why = kit.read_edit(str(file), crate.folder)

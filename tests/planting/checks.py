@@ -35,7 +35,6 @@ class Ran(NamedTuple):
     elapsed: float
 
     def lines(self) -> list[str]:
-        """The lines of the report."""
         return self.stdout.rstrip("\n").split("\n")
 
 
@@ -49,7 +48,6 @@ def link(one: str, other: str) -> None:
 
 
 def linked(kept: str | Path, to: str) -> None:
-    """Makes a copy of the work that checks have kept."""
     shutil.copytree(kept, to, copy_function=link)
 
 
@@ -106,7 +104,6 @@ class Checks:
             yield room
 
     def counted(self) -> int:
-        """Counts a check."""
         with self.counting:
             self.count += 1
             return self.count

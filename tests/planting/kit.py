@@ -81,7 +81,6 @@ class Crate(Protocol):
 
 
 def stop(why: str) -> NoReturn:
-    """Ends the run with this sentence."""
     sys.exit(f"planted: {why}: tests/planting/kit.py is written for {WRITTEN_FOR}")
 
 
@@ -147,7 +146,6 @@ def crates_below(folder: str) -> list[Crate]:
 
 
 def source_of(crate: Crate) -> Source:
-    """The functions and types of the crate."""
     source = _bodies.Source(crate.folder)
     source.read("src/main.rt" if crate.is_program else "src/lib.rt")
     need("rt-plant-bodies.Source", source, Source.__annotations__)

@@ -36,7 +36,6 @@ class Laws:
         self.crate, self.copies, self.source = copies.crate, copies, copies.source
 
     def name(self, f: Function) -> str:
-        """The function's path in the crate."""
         return "::".join(self.copies.path(f))
 
     def laws(self) -> list[str]:

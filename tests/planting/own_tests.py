@@ -135,7 +135,6 @@ def lines_have_their_definitions(_: Path) -> None:
 
 
 def made_up(folder: str) -> Reach:
-    """What the laws above reach."""
     return Reach(str(unpacked(HERE / "laws", folder)), "tiny", LAWS, ["one", "two"], "")
 
 
@@ -176,7 +175,6 @@ def changes_touch_definitions(_: Path) -> None:
 
 
 def report(said: list[str], status: int = 1, holes: set[str] | None = None) -> Any:
-    """What the runner takes from a report."""
     from planting.checks import Ran
     from planting.reports import Report
 

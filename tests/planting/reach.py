@@ -31,7 +31,6 @@ IDLE = re.compile(r"//[^\n]*|\buse [^;]*;")
 
 
 def read(file: str | Path) -> str:
-    """What a file says."""
     return Path(file).read_text(encoding="utf-8")
 
 

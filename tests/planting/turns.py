@@ -74,7 +74,6 @@ class Turns:
             self.changed.notify_all()
 
     def close(self) -> None:
-        """Gives no more turns."""
         with self.changed:
             self.is_closed = True
             self.changed.notify_all()

@@ -28,7 +28,6 @@ COLLECT = b'{"op":"collect"}\n'
 
 
 def drawn(program: Path, given: bytes, *words: str) -> tuple[bytes, int]:
-    """What is drawn for an input, and the status."""
     return asked(program, "draw", *words, given=given)
 
 
@@ -53,7 +52,6 @@ def expected(source: Random) -> tuple[Course, list[bytes], list[bytes], int]:
 
 
 def check_parsed(course: Course, shot: bytes) -> None:
-    """The last picture is read as what the model has."""
     found, slots = read(shot.decode()), model.slots_in_use(course.store)
     vertices = {serial: (it.colour, serial in course.store.where) for serial, it in slots.items()}
     same({serial: (it.colour, it.is_held) for serial, it in found.vertices.items()}, vertices)

@@ -45,7 +45,10 @@ PROBED = (
     "right {0}; left {1}; end {0}; home 1; on 2; back 1; last {0}; first 1; "
     "Pause; Play; larger true; as before true"
 )
+# The words with which Chromium shows no window, and tells what is said in its console.
+HEADLESS = ("--headless", "--no-sandbox", "--disable-gpu", "--enable-logging=stderr")
 
+Lines = Iterator[dict[str, object]]
 Point = tuple[float, ...]
 Ends = tuple[int, int]
 # The places of vertices, and the path and the tip of edges.
@@ -53,27 +56,20 @@ Circles = dict[int, Point]
 Curves = dict[Ends, tuple[str, Point]]
 
 
-def page_of(program: Path, lines: bytes, *words: str) -> tuple[list[str], str]:
-    """The pictures of lines, and the page that is made of them."""
+def page_of(program: Path, lines: str | Lines, *words: str) -> tuple[list[str], str]:
+    """The pictures of lines, or those of a story, and the page that is made of them."""
     how: dict[str, Any] = {"timeout": SECONDS, "check": True}
-    drawn = ran(program, "draw", "--each", given=lines, **how).stdout
+    if isinstance(lines, str):
+        given = (FILM / lines).read_bytes()
+    else:
+        given = b"".join(json.dumps(it).encode() + b"\n" for it in lines)
+    drawn = ran(program, "draw", "--each", given=given, **how).stdout
     made = ran(FILM / "film", *words, given=drawn, **how).stdout
     return drawn.decode().removesuffix("\n").split("\n"), made.decode()
 
 
-def story(name: str) -> bytes:
-    """The lines of a story."""
-    return (FILM / f"{name}.jsonl").read_bytes()
-
-
-def captions_of(page: str) -> list[str]:
-    """The captions of a page's frames."""
-    return [unescape(words) for words in re.findall('<p class="caption">(.*?)</p>', page)]
-
-
-def described(text: str) -> list[str]:
-    """What the frames of a page show, in words."""
-    return [unescape(words) for words in re.findall("<desc>(.*?)</desc>", text)]
+def texts_of(page: str, kind: str) -> list[str]:
+    return [unescape(words) for words in re.findall(f"<{kind}>(.*?)</", page)]
 
 
 @parametrised
@@ -82,33 +78,36 @@ def kept(program: Path, name: str) -> None:
     """The page that is kept shows what the program draws now, and so does the one that is made of
     it."""
     captions = FILM / f"{name}.captions"
-    lines, made = page_of(program, story(name), "--captions", str(captions))
+    lines, made = page_of(program, f"{name}.jsonl", "--captions", str(captions))
     page, single = ((KEPT / f"{name}.{kind}").read_text() for kind in ("html", "svg"))
     frames = frames_of(lines)
     wanted = [told(frame) for frame in frames]
-    same(described(made), wanted, "the page that is made")
-    same(described(page), wanted, "the page that is kept")
-    (shown,) = described(single)
+    same(texts_of(made, "desc"), wanted, "the page that is made")
+    same(texts_of(page, "desc"), wanted, "the page that is kept")
+    (shown,) = texts_of(single, "desc")
     assert shown in wanted, shown
     same((len(frames), {it.number for it in frames if it.missing}), STORIES[name])
     texts = captions.read_text().splitlines()
-    same([captions_of(made), captions_of(page)], [texts, texts], "captions")
+    same([texts_of(it, 'p class="caption"') for it in (made, page)], [texts, texts], "captions")
     same(FACTS.findall(page), FACTS.findall(made))
 
 
+def same_console(said: bytes) -> None:
+    rows = said.decode(errors="replace").splitlines()
+    same([row for row in rows if ":CONSOLE" in row], [], "the console")
+
+
 def seen_in_a_browser(page: str, probe: str, *words: str) -> str:
-    """What a probe reports of a page. Nothing is said in the console."""
+    """What a probe reports of a page."""
     with tempfile.TemporaryDirectory() as folder:
         file = Path(folder) / "page.html"
         file.write_text(page.replace("</body>", f"{probe}</body>"))
-        words = (*words, "--headless", "--no-sandbox", "--disable-gpu", "--enable-logging=stderr")
         words = (*words, f"--user-data-dir={folder}/data", "--dump-dom", file.as_uri())
-        done = ran(Path("chromium"), *words, timeout=SECONDS)
+        done = ran(Path("chromium"), *HEADLESS, *words, timeout=SECONDS)
     found = re.search('<pre id="seen">(.*?)</pre>', done.stdout.decode())
     report = unescape(found[1]) if found else "no report"
     print(f"  {report}")
-    rows = done.stderr.decode(errors="replace").splitlines()
-    same([row for row in rows if ":CONSOLE" in row], [], "the console")
+    same_console(done.stderr)
     return report
 
 
@@ -125,8 +124,9 @@ def in_a_browser(_: Path, name: str) -> None:
 def film_of_a_part(program: Path) -> None:
     """Without the collector no colours, targets and steps of it are shown, and what is condemned is
     gone; over one vertex, only what leads to it."""
-    plain = described(page_of(program, story("collector"), "--plain")[1])
-    over = described(page_of(program, story("sharing"), "--over", "4", "--plain")[1])
+    words = ("--over", "4", "--plain")
+    plain = texts_of(page_of(program, "collector.jsonl", "--plain")[1], "desc")
+    over = texts_of(page_of(program, "sharing.jsonl", *words)[1], "desc")
     # of 28 events 3 are shades, 1 is a cycle and 15 are steps
     same(len(plain), 9)
     same(re.findall("grey|black|target|condemned", " ".join(plain)), [])
@@ -143,7 +143,6 @@ def name_of(number: int) -> str:
     return chr(97 + number // 26) + chr(97 + number % 26)
 
 
-Lines = Iterator[dict[str, object]]
 NAMES = [name_of(number) for number in range(64)]
 
 
@@ -181,11 +180,6 @@ def hub() -> Lines:
     for _ in range(60):
         yield {"op": "create", "kind": "document", "rights": "rw"}
         yield {"op": "shade"}
-
-
-def film_of(program: Path, lines: Lines, *words: str) -> tuple[list[str], str]:
-    """The pictures of a film of these lines, and its page."""
-    return page_of(program, b"".join(json.dumps(it).encode() + b"\n" for it in lines), *words)
 
 
 def circles(text: str) -> Circles:
@@ -251,22 +245,20 @@ def faults_of_film(frames: Sequence[Frame], page: str) -> Iterator[str]:
         here, drawn = circles(text), curves(text, frame)
         if here.keys() != frame.picture.vertices.keys() or int(width) > BROADEST:
             yield f"frame {frame.number} draws {sorted(here)}, {width} wide"
-        yield from (f"{it} moves in frame {frame.number}" for it in moved(places, here))
-        yield from (f"{it} moves in frame {frame.number}" for it in moved(edges, drawn))
+        # (what is found anew is known then)
+        known: list[tuple[dict[Any, Any], dict[Any, Any]]] = [(places, here), (edges, drawn)]
+        for them, found in known:
+            moved = [key for key, place in found.items() if them.setdefault(key, place) != place]
+            yield from (f"{it} moves in frame {frame.number}" for it in moved)
     yield from faults_of_vertices(places)
     yield from faults_of_edges(places, edges)
-
-
-def moved(known: dict[Any, Any], found: dict[Any, Any]) -> list[Any]:
-    """What is not where it is known to be; what is found anew is known then."""
-    return [key for key, place in found.items() if known.setdefault(key, place) != place]
 
 
 @parametrised
 @needing("Graphviz")
 def wide(program: Path, lines: Callable[[], Lines], count: int, *words: str, **how: Any) -> None:
     """A film of so many vertices is no wider than a page, and shows all of them."""
-    pictures, page = film_of(program, lines(), *words)
+    pictures, page = page_of(program, lines(), *words)
     frames = frames_of(pictures, **how)
     found = set[int]().union(*(frame.picture.vertices for frame in frames))
     print(f"  {len(found)} vertices, {len(frames)} frames")
@@ -278,7 +270,7 @@ def wide(program: Path, lines: Callable[[], Lines], count: int, *words: str, **h
 def film_with_ranks_in_rows(program: Path) -> None:
     """The 60 documents of a hub are one rank: between its rows there is less room than a vertex
     takes, and than above it."""
-    page = film_of(program, hub(), "--frame", "121")[1]
+    page = page_of(program, hub(), "--frame", "121")[1]
     rows = sorted({y for _, y in circles(page).values()})
     first, *others = [below - above - 2 * RADIUS for above, below in zip(rows, rows[1:])]
     print(f"  room above the rows: {first}, {others}")
@@ -291,7 +283,7 @@ def film_of_seventy_in_a_browser(program: Path) -> None:
     """A window of 1,600 pixels shows the whole breadth of a wide film, no smaller than letters may
     get; one of 1,200 too, with the words below; a smaller one shows the part in which the first
     vertex is, and of the next picture the same part as of this one."""
-    page = film_of(program, company())[1]
+    page = page_of(program, company())[1]
     for breadth, wanted in ((1600, "whole"), (1200, "whole"), (400, "same part")):
         report = seen_in_a_browser(page, BREADTH, f"--window-size={breadth},1000")
         part, _, scale = report.partition(": ")

@@ -146,7 +146,6 @@ def a_full_vault_is_rebased(program: Path) -> None:
 
 
 def step(actor: int, line: bytes) -> bytes:
-    """The step that a line of a run is, of this actor."""
     fields = {name: value for name, value in json.loads(line).items() if name != "seat"}
     return json.dumps({"actor": actor, **fields}).encode()
 

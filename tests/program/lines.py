@@ -60,7 +60,6 @@ def answered(program: Path, words: list[str], given: bytes, wanted: bytes, statu
 
 
 def cases() -> Tests:
-    """The worked cases."""
     for folder in sorted((ROOT / "tests" / "cases").iterdir()):
         words, status = (
             file.read_text() if file.exists() else default
@@ -93,7 +92,6 @@ def refused_opening(name: str, line: bytes, answer: bytes) -> Tests:
 
 
 def written() -> Tests:
-    """Those that stand in files."""
     runs = ("session", "openings", "audits", "questions", "questions_of_runs")
     for file in (*runs, "pictures", "words", "servers"):
         for name, found in transcripts(HERE / f"{file}.txt").items():
@@ -150,7 +148,6 @@ def ends() -> Tests:
 
 
 def opening(principals: list[str], *fields: Field) -> bytes:
-    """A configuration of these principals."""
     return object_of([("principals", json.dumps(principals)), *fields])
 
 

@@ -20,6 +20,7 @@ from typing import Any
 import builds
 from checking import Tests, named, needing, parametrised, same
 from playground.service import MOST_BYTES, MOST_LINES, Service, opened
+from program.film import HEADLESS, same_console
 from running import ROOT, SECONDS, asked, hear, joined, started
 
 GROUP = (ROOT / "examples" / "models" / "group.jsonl").read_text().splitlines()
@@ -69,7 +70,6 @@ def served(program: Path, service: type[Service] = Service) -> Iterator[int]:
 def replied(
     port: int, method: str, path: str, headers: dict[str, str], body: bytes | None = None
 ) -> tuple[int, bytes]:
-    """The status and the body of the reply to a request."""
     line = http.client.HTTPConnection("127.0.0.1", port, timeout=SECONDS)
     line.request(method, path, body, headers)
     reply = line.getresponse()
@@ -79,7 +79,6 @@ def replied(
 
 
 def told(port: int, path: str, question: object, **headers: str) -> tuple[int, Any]:
-    """The status and the answer to a question."""
     body = question if isinstance(question, bytes) else json.dumps(question).encode()
     headers = {"Content-Type": "application/json", **headers}
     status, answer = replied(port, "POST", path, headers, body)
@@ -87,7 +86,6 @@ def told(port: int, path: str, question: object, **headers: str) -> tuple[int, A
 
 
 def fetched(port: int, path: str, **headers: str) -> int:
-    """The status of a file."""
     return replied(port, "GET", path, headers)[0]
 
 
@@ -185,14 +183,13 @@ def in_a_browser(program: Path, size: str) -> None:
         folder = stack.enter_context(tempfile.TemporaryDirectory())
         said = stack.enter_context(open(f"{folder}/said", "w+b"))
         port = stack.enter_context(served(program, probed))
-        words = ["--headless", "--no-sandbox", "--disable-gpu", "--enable-logging=stderr"]
-        words += [f"--user-data-dir={folder}/data", f"--window-size={size}"]
-        with started(Path("chromium"), *words, f"http://127.0.0.1:{port}/", stderr=said):
+        words = [f"--user-data-dir={folder}/data", f"--window-size={size}"]
+        address = f"http://127.0.0.1:{port}/"
+        with started(Path("chromium"), *HEADLESS, *words, address, stderr=said):
             is_told.wait(SECONDS)
         said.seek(0)
-        rows = said.read().decode(errors="replace").splitlines()
-    print(f"  {report or 'no report'}")
-    same([row for row in rows if ":CONSOLE" in row], [], "the console")
+        print(f"  {report or 'no report'}")
+        same_console(said.read())
     same(report, [SEEN.replace("\n", "; ")])
 
 

@@ -115,13 +115,11 @@ def helped_by_example(
 
 @parametrised
 def derivation_of(program: Path, name: str, answer: bytes, status: int) -> None:
-    """The verdict on the derivation of an example."""
     given = (ROOT / "examples" / name).read_bytes()
     same(asked(program, "audit", given=given), (answer, status))
 
 
 def demo_of(program: Path, *words: str) -> str:
-    """What examples/demo prints, with status 0."""
     found = example("demo", program, *words)
     same(found.returncode, 0)
     return found.stdout
@@ -143,7 +141,6 @@ def demo_of_an_audit(program: Path) -> None:
 
 @parametrised
 def versioned(program: Path, *words: str) -> None:
-    """A command line that asks for the version: the name and the version, status 0."""
     found = ran(program, *words)
     version = (b"tgdoc 0.1.0\n", b"", 0)
     same((found.stdout, found.stderr, found.returncode), version)

@@ -18,7 +18,6 @@ RIGHT = transcripts(HERE / "questions.txt")["a-right-that-can-be-taken"]
 
 
 def words(start: str, end: str, rights: str, *more: str) -> list[str]:
-    """The words of a question."""
     return ["--from", start, "--to", end, "--rights", rights, *more]
 
 

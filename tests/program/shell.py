@@ -27,7 +27,6 @@ def environment(program: Path) -> dict[str, str]:
 
 
 def session(program: Path, typed: list[str], *words: str) -> tuple[str, int]:
-    """What the shell prints for these lines, and its status."""
     given = "".join(line + "\n" for line in typed).encode()
     found = ran(SHELL, *words, given=given, env=environment(program))
     if found.stderr:

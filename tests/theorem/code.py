@@ -45,7 +45,6 @@ class Function(NamedTuple):
 
 
 def function_of(text: str, found: re.Match[str]) -> Function:
-    """The function of a text that begins so."""
     at, depth = found.end(), 0
     while depth or text[at] not in "{;" and not CLAUSE.match(text, at):
         depth += (text[at] in "([{") - (text[at] in ")]}")
@@ -68,8 +67,6 @@ class Block(NamedTuple):
 
 
 class Code:
-    """A file of src/."""
-
     def __init__(self, crates: Path, file: str) -> None:
         text = (crates / file).read_text(encoding="utf-8")
         self.file, self.imports = file, Imports(crates, text)
@@ -84,7 +81,6 @@ class Code:
                 self.taken[name] = head.split("::")
 
     def declaration(self, name: str) -> str:
-        """The text that declares a type or a constant."""
         at = self.declared[name]
         end = end_of(self.text, at)
         return self.text[at : end if self.text[end - 1] != ")" else end_of(self.text, end)]
@@ -111,7 +107,6 @@ class Code:
 
     @functools.cached_property
     def parts(self) -> tuple[str, list[Block]]:
-        """The text outside of blocks, and the blocks."""
         outside, at, blocks = "", 0, []
         for found in BLOCK.finditer(self.text):
             end, head = end_of(self.text, found.end() - 1), found[2].replace("->", "")

@@ -88,10 +88,7 @@ def miscited(sources: Sources, page: str, promises: list[Promise]) -> Iterator[s
 
 
 def complaints(
-    sources: Sources,
-    page: str,
-    promises: list[Promise] = PROMISES,
-    headline: Place = HEADLINE,
+    sources: Sources, page: str, promises: list[Promise] = PROMISES, headline: Place = HEADLINE
 ) -> Iterator[str]:
     """What is wrong with the lists and the numbers of a page."""
     items = pages.items(sources.crates, page)

@@ -56,8 +56,6 @@ def symbols_of(name: str) -> dict[str, str]:
 
 
 class Imports:
-    """The imports of a file."""
-
     def __init__(self, crates: Path, text: str) -> None:
         self.names: dict[str, tuple[Target, str]] = {}
         self.aliases: dict[str, Target] = {}

@@ -54,7 +54,6 @@ class Selection(NamedTuple):
         return {Place(self.file, name) for name in chosen}
 
     def misnamed(self, sources: Sources) -> Iterator[str]:
-        """What it names that is not there."""
         if not self.is_there(sources):
             yield f"there is no file {self.file}"
         elif self.file.endswith(".antt"):
@@ -90,7 +89,6 @@ def selections(crates: Path, text: str) -> Iterator[Selection]:
 
 
 def items(crates: Path, page: str) -> list[Item]:
-    """The items of a page."""
     section = SECTION.search(page)
     found = ITEM.findall(section[0] if section else "")
     return [Item(title, [*selections(crates, text)]) for title, text in found]

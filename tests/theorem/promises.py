@@ -55,7 +55,6 @@ PROMISES = [promise_of(paragraph) for paragraph in LIST.split("\n\n")[1:]]
 
 
 def named_by(sources: Sources, contract: Contract) -> set[Place]:
-    """The definitions that a contract names."""
     clauses = sources.code(contract.file).contract(contract.function)
     lacking = set(contract.clauses) - set(clauses)
     if lacking:
@@ -78,9 +77,7 @@ def closure(
 
 
 def rests_on(
-    sources: Sources,
-    begins: Iterable[Place | Contract],
-    skipped: frozenset[Place] = frozenset(),
+    sources: Sources, begins: Iterable[Place | Contract], skipped: frozenset[Place] = frozenset()
 ) -> set[Place]:
     """All on which something rests."""
     named = (
@@ -91,8 +88,6 @@ def rests_on(
 
 
 class Size(NamedTuple):
-    """How much there is to read."""
-
     definitions: int
     files: int
     lines: int

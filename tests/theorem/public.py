@@ -35,8 +35,6 @@ class Seen(NamedTuple):
 
 
 class Crate:
-    """What is public of a crate."""
-
     def __init__(self, sources: Sources, name: str) -> None:
         self.sources, self.name = sources, name
         self.files = sources.files(f"{name}/src/**/*.rt")

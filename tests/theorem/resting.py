@@ -21,10 +21,7 @@ from theorem.promises import PROMISES, Contract, Promise
 from theorem.public import promised
 from theorem.sources import Sources
 
-WRONG = {
-    "Promise": "no public contract rests on it",
-    "Inner": "public contracts rest on it",
-}
+WRONG = {"Promise": "no public contract rests on it", "Inner": "public contracts rest on it"}
 HERE = Path(__file__).resolve().parent
 # What the page of lapses/ promises.
 HEADLINE = Place("tiny/specs/Promise/Theorem.antt", "Theorem")

@@ -29,7 +29,6 @@ class Sources:
         self.names = functools.cache(lambda place: {*self.named_in(place)} - {place})
 
     def files(self, pattern: str) -> list[str]:
-        """The files below the folder that match."""
         return sorted(it.relative_to(self.crates).as_posix() for it in self.crates.glob(pattern))
 
     def is_constructor(self, file: str, word: str) -> bool:

@@ -42,8 +42,6 @@ class Definition:
 
 
 class Source:
-    """A file of specs/: its imports and its definitions."""
-
     def __init__(self, crates: Path, file: str) -> None:
         text = (crates / file).read_text(encoding="utf-8")
         self.imports = Imports(crates, text)
@@ -57,7 +55,6 @@ class Source:
             self.symbols |= symbols_of(name)
 
     def read(self, rows: list[str]) -> None:
-        """Takes the definitions from the rows."""
         parameters = margin = ""
         current = Definition("", "", "")
         for row in filter(None, rows):

@@ -38,7 +38,6 @@ class Walk:
         self.binding: int | None = None
 
     def mark(self, word: str, tokens: list[str], at: int) -> None:
-        """Takes account of a bracket or a mark."""
         if word in OPEN:
             self.brackets.append((len(self.bound), bound_by(tokens, at)))
         elif word in CLOSE:
