@@ -4,6 +4,7 @@ their place, and holes for the proofs of the others."""
 import re
 from collections import Counter
 from collections.abc import Collection, Iterable
+from operator import attrgetter
 from pathlib import Path
 
 from planting import kit
@@ -103,7 +104,7 @@ class Copies:
         function and the number."""
         text, done = b"", 0
         lines: dict[tuple[str, int], Numbered] = {}
-        for f in sorted((it for it in parts if it.file == file), key=lambda it: it.end):
+        for f in sorted((it for it in parts if it.file == file), key=attrgetter("end")):
             is_copied = CONTROL in parts[f]
             text += self.source.data[file][done : f.end if is_copied else f.first]
             done = f.end
@@ -152,8 +153,8 @@ class Copies:
 
     def edited(self, f: Function, bug: Bug | None, ending: str) -> bytes:
         """The text of the function with the bug, if any, under its name with this ending."""
-        data = self.source.data[f.file][: f.end]
-        name = Span(*f.named, f"{f.name}{ending}".encode())
+        data: bytes = self.source.data[f.file][: f.end]
+        name = Span(f.named[0], f.named[1], f"{f.name}{ending}".encode())
         for start, end, new in sorted([*(bug.spans[f] if bug else []), name], reverse=True):
             data = data[:start] + new + data[end:]
         return self.renamed(bug, data[f.first :], ending) if bug else data[f.first :]
