@@ -5,8 +5,7 @@ import re
 from pathlib import Path
 from typing import NamedTuple
 
-from theorem.imports import Imports
-from theorem.terms import Walk, words
+from theorem.specs import Imports, Walk, words
 
 # A comment, or a text or a character, whose brackets count for nothing.
 IDLE = re.compile(r"""//[^\n]*|"(?:\\.|[^"\\])*"|b?'(?:\\[^'\n]*|[^\\'\n])'""", re.S)

@@ -11,7 +11,7 @@ from collections.abc import Iterable
 from pathlib import Path
 from typing import NamedTuple
 
-from theorem.imports import Place
+from theorem.specs import Place
 from theorem.sources import Sources
 
 HEADLINE = Place("tg_vault/specs/Promise/Headline.antt", "Headline")

@@ -11,10 +11,9 @@ from collections.abc import Iterable, Iterator
 from typing import NamedTuple
 
 from theorem.code import BOUND, FUNCTION, TYPE, USE, Block, end_of, function_of
-from theorem.imports import Place, code_of
 from theorem.promises import Contract, closure, rests_on
 from theorem.sources import Sources
-from theorem.terms import Walk, words
+from theorem.specs import Place, Walk, code_of, words
 
 GHOST = re.compile(r"\bghost (\w+)\s*[:=]\s*\{")
 ITEM = re.compile(r"^pub (?:const )?(?:fn|struct|enum|trait|type|const) (\w+)", re.M)

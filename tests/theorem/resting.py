@@ -16,7 +16,7 @@ from checking import Tests, same
 from planting.reading import Edit, entries_in, made, unpacked
 from running import ROOT
 from theorem.compared import complaints
-from theorem.imports import Place
+from theorem.specs import Place
 from theorem.promises import PROMISES, Contract, Promise
 from theorem.public import promised
 from theorem.sources import Sources

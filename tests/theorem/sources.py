@@ -6,9 +6,7 @@ from collections.abc import Iterable, Iterator
 from pathlib import Path
 
 from theorem.code import TYPE, VARIANT, Code
-from theorem.imports import Place, code_of
-from theorem.specs import Source, free
-from theorem.terms import Walk, words
+from theorem.specs import Place, Source, Walk, code_of, free, words
 
 # The words of terms that stand for no definition, among them numbers and parameters of types.
 BUILT_IN = re.compile(r"record|where|Type|→|×|Unit|tt|⊥|←|𝓛|\d*|[A-Z]")

@@ -1,12 +1,163 @@
-"""The definitions of a file of crates/*/specs, by its text, and the words that each refers to."""
+"""The definitions of a file of crates/*/specs, by its text: the words of a term that it does not bind
+itself, the names that `use` gives a file, and the words that each definition refers to."""
 
 import re
-from collections.abc import Callable, Iterator
+from collections.abc import Callable, Iterable, Iterator
 from dataclasses import dataclass, field
+from itertools import takewhile
 from pathlib import Path
+from typing import NamedTuple
 
-from theorem.imports import Imports, symbols_of
-from theorem.terms import MARKS, QUOTED, Walk, split_at_equals, words
+QUOTED = r'"(?:[^"\\]|\\.)*"'
+# A bracket or a mark, or a word; a dot behind a word ends what a λ binds.
+TOKEN = re.compile(r"[(){};,]|[^\s(){};,]+?(?=\.?[\s(){};,]|\.?$)|\.")
+OPEN, CLOSE = {"(", "{"}, {")", "}"}
+MARKS = OPEN | CLOSE | {";", ",", ".", ":", "=", "λ", "_"}
+
+
+def words(text: str) -> list[str]:
+    """The words and marks of a text, its quotations left out."""
+    return TOKEN.findall(re.sub(QUOTED, " ", text))
+
+
+def bound_by(tokens: list[str], at: int) -> list[str]:
+    """The names of a bracket that binds some, such as `(x y : ℕ)`; none of any other."""
+    names: list[str] = []
+    for word in tokens[at + 1 :]:
+        if word == ":":
+            return names
+        if word != "_" and (word in MARKS or "." in word):
+            return []
+        names += [word] if word != "_" else []
+    return []
+
+
+class Walk:
+    """A walk along a term, which knows what is bound at each place."""
+
+    def __init__(self, bound: Iterable[str] = ()) -> None:
+        self.bound = list(bound)
+        # for each open bracket what was bound before it, and what it binds behind it
+        self.brackets: list[tuple[int, list[str]]] = []
+        # how many brackets are open where a λ binds names
+        self.binding: int | None = None
+
+    def mark(self, word: str, tokens: list[str], at: int) -> None:
+        if word in OPEN:
+            self.brackets.append((len(self.bound), bound_by(tokens, at)))
+        elif word in CLOSE:
+            # what was bound within is bound no longer
+            count, names = self.brackets.pop()
+            self.bound = self.bound[:count] + names
+        elif word in {";", ","} and self.brackets:
+            self.bound = self.bound[: self.brackets[-1][0]]
+        elif word == "λ":
+            self.binding = len(self.brackets)
+        elif word == "." and self.binding == len(self.brackets):
+            self.binding = None
+
+    def names(self, tokens: list[str]) -> Iterator[str]:
+        """The words that are not bound, in order: neither names that a bracket binds nor those of
+        fields, before `=` in a brace."""
+        skipped = 0
+        for at, word in enumerate(tokens):
+            if word in MARKS:
+                self.mark(word, tokens, at)
+                skipped = len(bound_by(tokens, at)) if word in OPEN else skipped
+            elif skipped:
+                skipped -= 1
+            elif self.binding == len(self.brackets) or tokens[at + 1 : at + 2] == ["←"]:
+                self.bound.append(word)
+            elif at and tokens[at - 1] in {"{", ";"} and tokens[at + 1 : at + 2] == ["="]:
+                continue
+            elif word.partition(".")[0] not in self.bound:
+                yield word
+
+
+def split_at_equals(tokens: list[str]) -> tuple[list[str], list[str]]:
+    """The two sides of an equation."""
+    depth = 0
+    for at, word in enumerate(tokens):
+        depth += (word in OPEN) - (word in CLOSE)
+        if word == "=" and depth == 0:
+            return tokens[:at], tokens[at + 1 :]
+    raise ValueError("no equation: " + " ".join(tokens))
+
+
+USE = re.compile(
+    r"^\s*(pub )?(?:ghost )?use (?:Rattle\.|(?=mir\.))([^\s{;]+?)(?:\.\{([^}]*)\}| as (\S+?))?;?$",
+    re.M,
+)
+
+
+class Place(NamedTuple):
+    """A definition: its file, below crates/, or the module of a library, and its name."""
+
+    file: str
+    name: str
+
+
+class Target(NamedTuple):
+    """What a path of imports names: a file, and in it one type of the code, or any name."""
+
+    file: str
+    owner: str
+    # whether the names are those of the variants of a type
+    has_variants: bool
+
+    def place(self, name: str) -> Place:
+        """Where a name of it is defined."""
+        return Place(self.file, self.owner or name)
+
+
+def code_of(crates: Path, crate: str, modules: list[str]) -> str:
+    """The file of a module of the code."""
+    roots = [it for it in ("lib", "main") if (crates / crate / "src" / f"{it}.rt").is_file()]
+    return f"{crate}/src/{'/'.join(modules or roots[:1])}.rt"
+
+
+def target_of(crates: Path, path: str) -> Target:
+    """What a path names, behind `Rattle.` if it begins with it."""
+    crate, kind, *parts = path.split(".")
+    if not (crates / crate).is_dir():
+        return Target(path.replace(".specs.", "."), "", False)
+    if kind != "specs" or parts[0] not in {"declared", "contracts"}:
+        return Target(f"{crate}/{kind}/{'/'.join(parts)}.antt", "", False)
+    files = list(takewhile(lambda it: not it[0].isupper(), parts[1:]))
+    types = parts[1 + len(files) :]
+    owner = "" if types[0] == "TheConstants" else ".".join([types[0], *({"TheInside"} & {*types})])
+    return Target(code_of(crates, crate, files), owner, "TheVariants" in types)
+
+
+def symbols_of(name: str) -> dict[str, str]:
+    """The symbols of an operator, such as ≡ of ◌≡◌, each with its name; none of any other name."""
+    return dict.fromkeys(filter(None, name.split("◌")), name) if "◌" in name else {}
+
+
+class Imports:
+    def __init__(self, crates: Path, text: str) -> None:
+        self.names: dict[str, tuple[Target, str]] = {}
+        self.aliases: dict[str, Target] = {}
+        # the names that the file hands on
+        self.handed_on: set[str] = set()
+        self.symbols: dict[str, str] = {}
+        for is_public, path, listed, alias in USE.findall(text):
+            target = target_of(crates, path)
+            if alias:
+                self.aliases[alias] = target
+            for item in filter(None, map(str.strip, listed.split(","))):
+                name, _, other = item.partition(" as ")
+                self.names[other or name] = target, name
+                self.handed_on |= {name} if is_public else set()
+                self.symbols.update(symbols_of(name))
+
+    def of(self, word: str) -> tuple[Target, str] | None:
+        """What a word refers to, if it is imported."""
+        first, _, rest = word.partition(".")
+        if rest and first in self.aliases:
+            return self.aliases[first], rest.partition(".")[0]
+        return self.names.get(self.symbols.get(first, first))
+
 
 HEAD = re.compile(r"(?:abbrev |unfoldable )?(?:pub )?(record |data )?(\S+)(?= |$)")
 NOTHING_DEFINED = re.compile(r"(?:pub )?use |pub mod |infix")
