@@ -34,11 +34,6 @@ CONFIG = b'{"principals":["alice","bob"],"edges":[[1,"tg",2],[2,"r",1]],"slots":
 BEGIN, PROBES = (it.lines for it in transcripts(Path(__file__).with_suffix(".txt")).values())
 
 
-def config_of(source: Random) -> bytes:
-    fields = fields_of(source, "config")
-    return with_faults(source, fields) if source.random() < 0.5 else object_of(fields)
-
-
 def read_or_refused(read: Callable[[bytes], T], line: bytes) -> tuple[T | None, bytes]:
     """What a line is read as, or nothing and the answer that refuses it."""
     try:
@@ -100,19 +95,14 @@ def rows_of_an_audit(source: Random) -> list[bytes]:
     return rows[: source.randint(0, 1)] if source.random() < 0.02 else rows
 
 
-def verdict_wanted(rows: list[bytes]) -> bytes:
-    """The answer to an audit, as a line without its line feed."""
+def check_audit(program: Path, source: Random) -> None:
+    rows = rows_of_an_audit(source)
     try:
         config = read_config(rows[0] if rows else b"")
         goal = read_goal(rows[1] if len(rows) > 1 else b"")
-        return line_of(verdict(config, goal, [read_step(row) for row in rows[2:]]))
+        wanted = line_of(verdict(config, goal, [read_step(row) for row in rows[2:]]))
     except Refused as refused:
-        return line_of(refused.answer)
-
-
-def check_audit(program: Path, source: Random) -> None:
-    rows = rows_of_an_audit(source)
-    wanted = verdict_wanted(rows)
+        wanted = line_of(refused.answer)
     status = int(wanted != b'{"verdict":"shared"}')
     with printed_if_wrong("an audit", rows):
         same(asked(program, "audit", given=joined(*rows)), (wanted + b"\n", status))
@@ -129,7 +119,10 @@ def check_lines(program: Path, seed: str, count: int) -> None:
         with printed_if_wrong(f"run {number} of seed {seed}", []):
             check_run(program, source, CONFIG, lines)
             for _ in range(of_this // 20):
-                check_run(program, source, config_of(source), [*BEGIN, *PROBES])
+                fields = fields_of(source, "config")
+                is_bad = source.random() < 0.5
+                config = with_faults(source, fields) if is_bad else object_of(fields)
+                check_run(program, source, config, [*BEGIN, *PROBES])
             for _ in range(of_this // 100):
                 check_audit(program, source)
 

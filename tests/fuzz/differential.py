@@ -72,10 +72,10 @@ def opening(source: Random) -> Event:
     """A configuration of one to four principals or a crowd; few slots, cells and serials."""
     few = source.randint(1, 4)
     count = source.randint(MOST_PRINCIPALS - 1, MOST_PRINCIPALS) if source.random() < 0.08 else few
-    pairs = edges_among(source, few)
-    config: Event = {"principals": CROWD[:count], "edges": pairs}
+    edges = edges_among(source, few)
+    config: Event = {"principals": CROWD[:count], "edges": edges}
     config["slots"] = count + source.randint(0, 8)
-    config["cells"] = max(1, len(pairs) + source.randint(0, 16))
+    config["cells"] = max(1, len(edges) + source.randint(0, 16))
     if source.random() < 0.1:
         config["next"] = NONE_LEFT - source.randint(0, 6)
     return config
@@ -197,8 +197,8 @@ def plan(source: Random, run: Run | Course) -> Iterator[Event]:
         yield from filled(source, graph)
     for seat, sitting in list(graph.seats.items()):
         actor = graph.agents.get(seat, sitting)
-        ends = [actor, *[end for end, _ in graph.edges(actor)]]
-        yield from [{"op": "look", "at": end, "seat": seat} for end in ends]
+        for end in [actor, *dict(graph.edges(actor))]:
+            yield {"op": "look", "at": end, "seat": seat}
 
 
 def row_of(source: Random, event: Event) -> bytes:
@@ -227,10 +227,9 @@ def talked(
             row = row_of(source, event)
             told.append(row)
             tell(process, row + b"\n")
-            answer = hear(process)
-            told.append(answer[:-1])
-            read, heard = read_event(row), answer[:-1]
-            problem = run.problem(read, heard) or course.problem(read, heard)
+            answer, read = hear(process)[:-1], read_event(row)
+            told.append(answer)
+            problem = run.problem(read, answer) or course.problem(read, answer)
             assert problem is None, problem
             kind = next((kind for kind in KINDS if f'"{kind}"'.encode() in answer), "steps")
             seen[kind] += 1
@@ -261,12 +260,6 @@ def random_runs(program: Path, count: int) -> None:
     same(set(seen), {*KINDS, "steps"}, "answers of each kind")
 
 
-def is_possible(graph: Graph, step: Event) -> bool:
-    if graph.kinds.get(step["actor"]) != "subject" or graph.denial(step["actor"], step):
-        return False
-    return step["op"] != "create" or graph.next < NONE_LEFT
-
-
 def derivation(source: Random) -> list[Event]:
     """The values of an audit's lines: a configuration, a goal and steps. Many have only steps that
     are possible; the rest end in one of any kind."""
@@ -278,9 +271,11 @@ def derivation(source: Random) -> list[Event]:
     for _ in range(source.randint(0, source.choice([40, 40, 160]))):
         subjects = [serial for serial, kind in graph.kinds.items() if kind == "subject"]
         actor = source.choice(subjects) if source.random() < 0.9 else serial(source, graph)
-        step = {"actor": actor, **command(source, graph, actor, OPS)}
+        step: Event = {"actor": actor, **command(source, graph, actor, OPS)}
         may_be_wrong = 0.08 if actor in subjects and graph.next < NONE_LEFT else 0.4
-        if is_possible(graph, step):
+        # (whether the step can be carried out)
+        is_allowed = graph.kinds.get(actor) == "subject" and not graph.denial(actor, step)
+        if is_allowed and (step["op"] != "create" or graph.next < NONE_LEFT):
             graph.done(actor, step)
             steps.append(step)
         elif not is_good and source.random() < may_be_wrong:

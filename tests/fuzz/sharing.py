@@ -63,11 +63,9 @@ def drawn(source: Random) -> Drawn | None:
     config = line_of(opening(source))
     course, rows, status = Course(read_config(config)), [config], 0
     graph = course.graph
-    seats = enumerate(list(graph.names)[:4])
-    events = [{"op": "hello", "name": name, "seat": seat} for seat, name in seats]
-    for _ in range(len(events) + source.randint(0, 30)):
-        event = events.pop(0) if events else event_of(source, graph)
-        rows.append(row_of(source, event))
+    hellos = [{"op": "hello", "name": it, "seat": at} for at, it in enumerate([*graph.names][:4])]
+    for event in [*hellos, *[None] * source.randint(0, 30)]:
+        rows.append(row_of(source, event or event_of(source, graph)))
         status |= "error" in course.answer(read_event(rows[-1]))
     if len(graph.kinds) > MOST_VERTICES:
         return None
@@ -169,11 +167,9 @@ def run_of_chain(links: int) -> bytes:
     made = range(2, last + 1)
     kinds = ["subject" if serial < first else "document" for serial in made]
     events: list[Event] = [{"op": "create", "kind": kind, "rights": "rwtg"} for kind in kinds]
-    grants = []
-    for giver in range(2, links + 2):
-        between = first + giver - 2
+    grants = [("r", last, 2)]
+    for giver, between in zip(range(2, links + 2), range(first, last)):
         grants += [("g", between, giver), ("t", between, giver + 1), ("t", giver + 1, giver)]
-    grants.append(("r", last, 2))
     events += [{"op": "grant", "rights": it, "over": over, "to": to} for it, over, to in grants]
     rows = [b'{"principals":["alice"],"slots":1024,"cells":8192}']
     rows.append(b'{"op":"hello","name":"alice"}')

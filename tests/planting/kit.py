@@ -131,13 +131,8 @@ def tried(
     crate: Crate, name: str, texts: dict[str, str], flags: list[str], kept: str | None
 ) -> tuple[bool, bool, str]:
     """What the toolchain's own rule says of the crate with these texts: whether it is refused,
-    whether that is settled over this kept work, and the words.
-
-    Some kits answer whether it is refused, others one of several verdicts.
-    """
+    whether that is settled over this kept work, and the words."""
     _texts[name] = texts
     verdict, said = _rt.must_fail(crate, name, flags, kept)
     said = re.sub(r"^must-fail \S+: ", "", said)
-    if isinstance(verdict, bool):
-        return verdict, verdict, said
     return verdict in (_rt.REFUSED, _rt.AT_LIMIT), verdict in _rt.SETTLED, said

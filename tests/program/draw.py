@@ -27,14 +27,10 @@ MOST_SLOTS = 65_536
 COLLECT = b'{"op":"collect"}\n'
 
 
-def drawn(program: Path, given: bytes, *words: str) -> tuple[bytes, int]:
-    return asked(program, "draw", *words, given=given)
-
-
 @parametrised
 def last_of(program: Path, found: Transcript) -> None:
     """Lines after whose last one `draw --each` writes this picture."""
-    written, status = drawn(program, found.given, "--each")
+    written, status = asked(program, "draw", "--each", given=found.given)
     rows = written.splitlines(keepends=True)
     same((len(rows), rows[-1], status), (len(found.lines) - 1, found.wanted, 0))
 
@@ -66,8 +62,8 @@ def random_pictures(program: Path) -> None:
         given, status = joined(*rows), int(errors > 0)
         last = model.picture(course, b"lines %d, errors %d\n" % (len(rows), errors))
         with printed_if_wrong(name, rows):
-            same(drawn(program, given, "--each"), (b"".join(shots), status))
-            same(drawn(program, given), (last, status))
+            same(asked(program, "draw", "--each", given=given), (b"".join(shots), status))
+            same(asked(program, "draw", given=given), (last, status))
             for shot in shots[-1:]:
                 check_parsed(course, shot)
 
@@ -110,7 +106,7 @@ def all_slots_are_drawn_at_once(program: Path) -> None:
     """65,536 vertices with an edge to each but one are made and drawn in less than a second."""
     given = b'{"principals":["alice"],"slots":%d,"cells":%d}\n' % (MOST_SLOTS, MOST_SLOTS)
     given += HELLO + (CREATE + SHADE) * (MOST_SLOTS - 1)
-    shot, _ = drawn(program, given)
+    shot, _ = asked(program, "draw", given=given)
     same((shot.count(b",class="), shot.count(b" -> ")), (MOST_SLOTS, MOST_SLOTS - 1))
     took = min(seconds(program, given) for _ in range(3))
     print(f"  {MOST_SLOTS} vertices: {took:.3f} s")

@@ -16,6 +16,7 @@ from collections.abc import Iterator
 from functools import partial
 from pathlib import Path
 from typing import Any
+from unittest.mock import patch
 
 import builds
 from checking import Tests, named, needing, parametrised, same
@@ -54,28 +55,24 @@ class Probed(Service):
 @contextlib.contextmanager
 def served(program: Path, service: type[Service] = Service) -> Iterator[int]:
     """A playground over this program, on a free port."""
-    before, builds.FOUND = builds.FOUND, program
-    server = opened(service, 0)
-    thread = threading.Thread(target=server.serve_forever, daemon=True)
-    thread.start()
-    try:
-        yield server.server_port
-    finally:
-        server.shutdown()
-        server.server_close()
-        thread.join()
-        builds.FOUND = before
+    with patch.object(builds, "FOUND", program), opened(service, 0) as server:
+        thread = threading.Thread(target=server.serve_forever, daemon=True)
+        thread.start()
+        try:
+            yield server.server_port
+        finally:
+            server.shutdown()
+            thread.join()
 
 
 def replied(
     port: int, method: str, path: str, headers: dict[str, str], body: bytes | None = None
 ) -> tuple[int, bytes]:
     line = http.client.HTTPConnection("127.0.0.1", port, timeout=SECONDS)
-    line.request(method, path, body, headers)
-    reply = line.getresponse()
-    found = reply.status, reply.read()
-    line.close()
-    return found
+    with contextlib.closing(line):
+        line.request(method, path, body, headers)
+        reply = line.getresponse()
+        return reply.status, reply.read()
 
 
 def told(port: int, path: str, question: object, **headers: str) -> tuple[int, Any]:

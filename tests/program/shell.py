@@ -1,5 +1,6 @@
 """The shell of examples/shell: what it prints for typed lines, worked out by hand."""
 
+import contextlib
 import json
 import os
 import pty
@@ -13,7 +14,7 @@ import time
 from pathlib import Path
 
 from checking import Tests, named, parametrised, same
-from running import ROOT, SECONDS, Process, hear, ran, rest_of, started, tell
+from running import ROOT, SECONDS, hear, ran, rest_of, started, tell
 from server.servers import AGREED, ANY_PORT, Server, running
 
 SHELL = ROOT / "examples" / "shell" / "shell"
@@ -68,22 +69,20 @@ def slowly(program: Path, typed: list[str], config: Path, kept: Path) -> tuple[s
     for it: the collector may not have freed a slot yet."""
     environ = environment(program)
     with started(SHELL, "--config", config, env=environ) as process:
-        told, limit = hear(process).decode(), time.monotonic() + SECONDS
+        told, limit = hear(process), time.monotonic() + SECONDS
         for line in typed:
-            told += line_of_shell(process, line)
-            while told.splitlines()[-1].startswith("There is no room"):
+            answer = b"There is no room"
+            while answer.startswith(b"There is no room"):
                 assert time.monotonic() < limit, "there is no room"
-                time.sleep(0.05)
-                told += line_of_shell(process, line)
+                # (its echo comes before one line of an answer)
+                tell(process, f"{line}\n".encode())
+                told += hear(process)
+                answer = hear(process)
+                told += answer
+                time.sleep(0.05 * answer.startswith(b"There is no room"))
         tell(process, f"lines {kept}\nquit\n".encode())
         text, status = rest_of(process)
-    return told + text.decode(), status
-
-
-def line_of_shell(process: Process, line: str) -> str:
-    """Types a line; its echo and one line of an answer."""
-    tell(process, f"{line}\n".encode())
-    return (hear(process) + hear(process)).decode()
+    return (told + text).decode(), status
 
 
 def shell_in_a_terminal(program: Path) -> None:
@@ -109,14 +108,9 @@ def shell_in_a_terminal(program: Path) -> None:
 def until(terminal: int, wanted: bytes | None) -> bytes:
     """What a terminal shows until it has shown this, or until it ends."""
     seen = b""
-    while wanted is None or wanted not in seen:
-        try:
-            piece = os.read(terminal, 4096)
-        except OSError:
-            return seen
-        seen += piece
-        if not piece:
-            return seen
+    with contextlib.suppress(OSError):
+        while (wanted is None or wanted not in seen) and (piece := os.read(terminal, 4096)):
+            seen += piece
     return seen
 
 

@@ -108,11 +108,6 @@ def as_listed(places: set[Place]) -> set[Place]:
     return {it if it.file.endswith(".antt") else Place(it.file, "") for it in places}
 
 
-def shown(place: Place) -> str:
-    """A definition, or a file, as a complaint says it."""
-    return f"{place.name} of {place.file}" if place.name else place.file
-
-
 def listed_by(sources: Sources, items: list[Item]) -> set[Place]:
     """All that some items list."""
     chosen = (selection.places(sources) for item in items for selection in item.selections)
@@ -130,15 +125,15 @@ def out_of_order(sources: Sources, items: list[Item], promise: Promise) -> Itera
         (own,) = as_listed({place})
         for needed in as_listed(sources.names(place) - promise.skipped):
             if own in ranks and needed in ranks and ranks[own] < ranks[needed]:
-                yield f"{shown(own)} needs {shown(needed)}, which comes later"
+                yield f"{own} needs {needed}, which comes later"
 
 
 def differences(where: str, needed: set[Place], listed: set[Place]) -> Iterator[str]:
     """What is not listed, and what is listed and not needed."""
     for it in sorted(needed - listed):
-        yield f"{where}: {shown(it)} is not listed"
+        yield f"{where}: {it} is not listed"
     for it in sorted(listed - needed):
-        yield f"{where}: {shown(it)} is listed without need"
+        yield f"{where}: {it} is listed without need"
 
 
 def misplaced(
@@ -148,9 +143,9 @@ def misplaced(
     what is listed up to there and only other promises need."""
     first, later = listed_by(sources, items[:last]), listed_by(sources, items[last:])
     for it in sorted((headline & later) - first):
-        yield f"{shown(it)} is needed by the headline, but comes after item {last}"
+        yield f"{it} is needed by the headline, but comes after item {last}"
     for it in sorted((first & needed) - headline):
-        yield f"{shown(it)} comes up to item {last}, but the headline does not need it"
+        yield f"{it} comes up to item {last}, but the headline does not need it"
 
 
 def misnamed(sources: Sources, items: list[Item], promises: list[Promise]) -> Iterator[str]:

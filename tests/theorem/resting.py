@@ -51,9 +51,9 @@ def misplaced(crates: Path, page: Iterable[Place | Contract] = ()) -> Iterator[s
         folder = file.split("/")[2]
         for name in sources.spec(file).definitions:
             if folder not in WRONG:
-                yield f"{name} of {file} is in no folder"
+                yield f"{Place(file, name)} is in no folder"
             elif (Place(file, name) in rested) != (folder == "Promise"):
-                yield f"{name} of {file}: {WRONG[folder]}"
+                yield f"{Place(file, name)}: {WRONG[folder]}"
 
 
 def are_in_their_folders(crates: Path) -> None:

@@ -91,10 +91,14 @@ USE = re.compile(
 
 
 class Place(NamedTuple):
-    """A definition: its file, below crates/, or the module of a library, and its name."""
+    """A definition: its file, below crates/, or the module of a library, and its name; without one,
+    the whole file."""
 
     file: str
     name: str
+
+    def __str__(self) -> str:
+        return f"{self.name} of {self.file}" if self.name else self.file
 
 
 class Target(NamedTuple):
