@@ -60,11 +60,6 @@ class Owner:
         return self.graph.reached([self.serial, self.actor])
 
 
-def rights_from(source: Random) -> str:
-    """Some rights in any order, seldom none."""
-    return "".join(source.sample(LETTERS, source.choice([0, 1, 1, 1, 2, 2, 3, 4, 4])))
-
-
 def command(source: Random, owner: Owner) -> tuple[str, Arguments]:
     """A random command; if much is held, one that gives all rights over a vertex up, or leaves."""
     held = owner.graph.edges(owner.actor)
@@ -77,7 +72,9 @@ def command(source: Random, owner: Owner) -> tuple[str, Arguments]:
     # never existed or is another's.
     serials = [serial for serial, _ in held] * 5 + list(owner.graph.kinds)
     serials.append(source.randint(1, 5000))
-    over, other, rights = source.choice(serials), source.choice(serials), rights_from(source)
+    over, other = source.choice(serials), source.choice(serials)
+    # some rights in any order, seldom none
+    rights = "".join(source.sample(LETTERS, source.choice([0, 1, 1, 1, 2, 2, 3, 4, 4])))
     name = source.choice(NAMES_OF_COMMANDS)
     fields = {
         "kind": source.choice(["document", "document", "subject"]),

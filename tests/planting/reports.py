@@ -27,6 +27,8 @@ UNTRIED = re.compile(
 # hole.
 PROVED = r"(?:proved|no holes$|depends on a hole in )"
 PROVES = re.compile(rf"fn (\S+): {PROVED}")
+# What it says of anything else that is not proved.
+STRAY = re.compile(rf"(fn|impl) \S+: (?!assumed|{PROVED})")
 QUOTED = re.compile(r"`([^`]+)`")
 
 
@@ -94,7 +96,9 @@ class Report:
             self.unread.add(self.lines[error[1], int(error[2])])
         elif copy:
             self.judge(copy, line, notes)
-        elif error or self.is_stray(line, name):
+        elif error or name not in self.waits and STRAY.match(line):
+            self.stray.append(line)
+        elif "has not tried the goals of" in line and not {*UNTRIED.findall(line)} & self.seen:
             self.stray.append(line)
 
     def judge(self, copy: str, line: str, notes: list[str]) -> None:
@@ -105,12 +109,6 @@ class Report:
         calls = line.partition("; it calls ")[2]
         is_open = "not proved" in calls and not {*QUOTED.findall(calls)} <= self.holes
         self.faults.setdefault(copy, []).extend([] if is_open else own)
-
-    def is_stray(self, line: str, name: str) -> bool:
-        """Whether the line says of anything else that it is not proved, and does not only wait."""
-        if name not in self.waits and re.match(rf"(fn|impl) \S+: (?!assumed|{PROVED})", line):
-            return True
-        return "has not tried the goals of" in line and not {*UNTRIED.findall(line)} & self.seen
 
 
 def refusal(ran: Ran, texts: Mapping[str, str | None], own: set[Place] | None = None) -> str | None:

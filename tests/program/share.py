@@ -46,17 +46,13 @@ def example_of_a_leak(program: Path) -> None:
 MANY = 65_536
 
 
-def of_every_slot() -> bytes:
-    """A run that fills all slots: alice makes subjects, and at last a document."""
-    create = b'{"op":"create","kind":"%s","rights":"rtg"}\n' + SHADE
-    subject, document = create % b"subject", create % b"document"
-    config = b'{"principals":["alice"],"slots":%d,"cells":1048576}\n' % MANY
-    return config + HELLO + subject * (MANY - 2) + document
-
-
 def a_question_about_all_slots(program: Path) -> None:
     """A question about a graph of 65,536 vertices is answered soon, and in bounded memory."""
-    given, before = of_every_slot(), resource.getrusage(resource.RUSAGE_CHILDREN).ru_utime
+    create = b'{"op":"create","kind":"%s","rights":"rtg"}\n' + SHADE
+    given = b'{"principals":["alice"],"slots":%d,"cells":1048576}\n' % MANY + HELLO
+    # alice makes subjects, and at last a document
+    given += create % b"subject" * (MANY - 2) + create % b"document"
+    before = resource.getrusage(resource.RUSAGE_CHILDREN).ru_utime
     derivation, status = shared(program, given, *words("3", str(MANY), "r"))
     took = resource.getrusage(resource.RUSAGE_CHILDREN).ru_utime - before
     lines = derivation.count(b"\n")

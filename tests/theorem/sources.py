@@ -78,11 +78,9 @@ class Sources:
             definition = self.spec(place.file).definitions[place.name]
             found = free(definition, lambda word: self.is_constructor(place.file, word))
             yield from self.referred_to(place.file, found)
-        elif place.file.endswith(".rt"):
-            yield from self.named_by_type(place)
-
-    def named_by_type(self, place: Place) -> Iterator[Place]:
-        """What a type of the code is made of: what contracts see of it, or its fields."""
+        if not place.file.endswith(".rt"):
+            return
+        # what a type of the code is made of: what contracts see of it, or its fields
         code, name = self.code(place.file), place.name.removesuffix(".TheInside")
         value = code.value(name) if name == place.name else None
         if value is not None:
