@@ -23,14 +23,13 @@ from transcripts import transcripts
 
 HERE = Path(__file__).parent / "made_up"
 # The bugs of made_up/rules.rt.bugs.
-READ = {
-    "one-line": [Edit("src/rules.rt", "let a = 1;", "let a = 2;")],
-    "several-lines": [
-        Edit("src/rules.rt", "let b = 1;", ""),
-        Edit("src/graph.rt", "    if b {\n\n    }", "    if !b {\n- + #\n    }"),
-    ],
-    "last": [Edit("src/rules.rt", "c", " d"), Edit("src/rules.rt", "e", "f")],
-}
+RULES, GRAPH = "src/rules.rt", "src/graph.rt"
+IF = (GRAPH, "    if b {\n\n    }", "    if !b {\n- + #\n    }")
+READ = [
+    ("one-line", [(RULES, "let a = 1;", "let a = 2;")]),
+    ("several-lines", [(RULES, "let b = 1;", ""), IF]),
+    ("last", [(RULES, "c", " d"), (RULES, "e", "f")]),
+]
 EMPTY = "an old text is in src/lib.rt 7 times, and not once: "
 # Files of planted/ that are not read, and what is said of the last one.
 STRANGE = {
@@ -80,8 +79,7 @@ def bugs_are_read(_: Path) -> None:
     """Names, texts of one line and of several, an empty one, and other files; the last line has no
     line feed."""
     text = (HERE / "rules.rt.bugs").read_text(encoding="utf-8").removesuffix("\n")
-    read = reading.bugs_in(text, "src/rules.rt")
-    same(list(read.items()), list(READ.items()))
+    same(list(reading.bugs_in(text, RULES).items()), READ)
 
 
 def misread_bugs_are_told(_: Path) -> None:
@@ -186,8 +184,7 @@ def changes_touch_definitions(_: Path) -> None:
     with tempfile.TemporaryDirectory() as folder:
         reach = made_up(folder)
         found = [reach.touched({"specs/Numbers.antt": it}) for it in texts]
-    place = {"specs/Numbers.antt:2"}
-    same(found, [{"above"}, place, set[str](), set[str](), set[str]()])
+    same(found, [{"above"}, {"specs/Numbers.antt:2"}, *[set[str]()] * 3])
 
 
 def report(said: list[str], status: int = 1, holes: set[str] | None = None) -> Any:

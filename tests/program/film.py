@@ -138,12 +138,7 @@ def film_of_a_part(program: Path) -> None:
         assert "1 has rw over 4." in row and "2 bob" not in row and "3:" not in row, row
 
 
-def name_of(number: int) -> str:
-    """A name for each number up to 676."""
-    return chr(97 + number // 26) + chr(97 + number % 26)
-
-
-NAMES = [name_of(number) for number in range(64)]
+NAMES = [chr(97 + number // 26) + chr(97 + number % 26) for number in range(64)]
 
 
 def company() -> Lines:
@@ -154,7 +149,7 @@ def company() -> Lines:
     edges += [*((member, "r", 58) for member in members), (58, "t", 1)]
     edges += [(member, "g", 59 + member % 6) for member in members]
     yield {"principals": NAMES, "edges": edges, "slots": 70}
-    yield from ({"op": "hello", "name": name_of(58 + seat), "seat": seat} for seat in range(6))
+    yield from ({"op": "hello", "name": NAMES[58 + seat], "seat": seat} for seat in range(6))
     for seat in range(6):
         yield {"op": "create", "kind": "document", "rights": "rw", "seat": seat}
         yield {"op": "shade", "seat": seat}
@@ -169,7 +164,7 @@ def crossed() -> Lines:
     edges = [(start, "rwtg"[start % 4 :], end) for start, end in sorted(pairs) if start != end]
     yield {"principals": NAMES, "edges": edges, "slots": 70}
     for seat in range(6):
-        yield {"op": "hello", "name": name_of(10 * seat), "seat": seat}
+        yield {"op": "hello", "name": NAMES[10 * seat], "seat": seat}
         yield {"op": "create", "kind": "document", "rights": "rw", "seat": seat}
 
 

@@ -50,12 +50,6 @@ def explained(program: Path, told: Transcript) -> None:
     same((found.stdout, found.returncode), (plain.stdout, plain.returncode))
 
 
-def last_line_explained(program: Path) -> None:
-    """The last line may lack its line feed."""
-    found = ran(program, "run", "--explain", given=CONFIG + b"x")
-    same(found.stderr, b"line 2: not one JSON value in UTF-8\n")
-
-
 def lines_behind_the_last_unexplained(program: Path) -> None:
     """Lines that are not taken any more are not explained, though they were read with others."""
     too_long = b"line 2: more than 16384 bytes\n"
@@ -168,5 +162,8 @@ def tests() -> Tests:
     yield from named(interrupted_calls_are_no_failures)
     for name, told in transcripts(HERE / "explained.txt").items():
         yield name, explained(told)
-    yield from named(last_line_explained, lines_behind_the_last_unexplained)
+    # (the last line may lack its line feed)
+    wanted = b"line 2: not one JSON value in UTF-8\n"
+    yield "last-line-explained", says(wanted, "run", "--explain", given=CONFIG + b"x")
+    yield from named(lines_behind_the_last_unexplained)
     yield from named(no_other_field_blamed_without_memory, nothing_else_explained)

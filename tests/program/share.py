@@ -6,7 +6,6 @@ from pathlib import Path
 from checking import Tests, named, same
 from faults.refused import memory_of_one_answer_refused
 from fuzz.sharing import NEVER, NO_SERIAL, SHARED, audited, shared
-from models.reading import line_of
 from program.lines import HERE
 from program.programs import helped
 from running import example
@@ -23,13 +22,11 @@ def words(start: str, end: str, rights: str, *more: str) -> list[str]:
 
 def no_serial_left_for_a_question(program: Path) -> None:
     """Where no serial is left, what takes a new vertex cannot be done, and is no `never`."""
-
-    def opening(names: list[str], *edges: list[object]) -> bytes:
-        return line_of({"principals": names, "edges": edges, "next": 2**64 - 1}) + b"\n"
-
-    more = opening(["alice", "bob", "carol"], [2, "t", 1], [2, "r", 3])
-    lines = opening(["alice", "bob"], [2, "t", 1]) + HELLO
-    lines += b'{"op":"create","kind":"document","rights":"r"}\n'
+    opening = (
+        b'{"edges":[[2,"t",1]%s],"next":18446744073709551615,"principals":["alice","bob"%s]}\n'
+    )
+    more = opening % (b',[2,"r",3]', b',"carol"')
+    lines = opening % (b"", b"") + HELLO + b'{"op":"create","kind":"document","rights":"r"}\n'
     same(shared(program, more, *words("alice", "carol", "r")), (NO_SERIAL, 0))
     same(shared(program, lines, *words("alice", "bob", "r")), (NEVER, 0))
 

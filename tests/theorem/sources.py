@@ -12,10 +12,6 @@ from theorem.specs import Place, Source, Walk, code_of, free, words
 BUILT_IN = re.compile(r"record|where|Type|→|×|Unit|tt|⊥|←|𝓛|\d*|[A-Z]")
 
 
-class Unknown(ValueError):
-    """A word that no file defines."""
-
-
 class Sources:
     """The files of a folder of crates, each read once it is asked for."""
 
@@ -50,10 +46,10 @@ class Sources:
                 return self.defined(target.place(given))
             name = source.constructors.get(name, name)
             if name not in source.definitions:
-                raise Unknown(f"{file} defines no {name}")
+                raise ValueError(f"{file} defines no {name}")
         elif file.endswith(".rt"):
             if name.removesuffix(".TheInside") not in self.code(file).declared:
-                raise Unknown(f"{file} declares no {name}")
+                raise ValueError(f"{file} declares no {name}")
         return Place(file, name)
 
     def referred_to(self, file: str, found: Iterable[str]) -> Iterator[Place]:
@@ -70,7 +66,7 @@ class Sources:
                 target, name = imported
                 yield self.defined(target.place(name))
             elif not BUILT_IN.fullmatch(first):
-                raise Unknown(f"{file}: {word}")
+                raise ValueError(f"{file}: {word}")
 
     def named_in(self, place: Place) -> Iterator[Place]:
         """The definitions that stand in one; none in those of a library."""
