@@ -108,31 +108,27 @@ def check_audit(program: Path, source: Random) -> None:
         same(asked(program, "audit", given=joined(*rows)), (wanted + b"\n", status))
 
 
-def check_lines(program: Path, seed: str, count: int) -> None:
-    """This many lines of a seed; every twentieth is a configuration, every hundredth an audit."""
-    made, number = 0, 0
-    while made < count:
-        number += 1
-        source = random.Random(f"{seed}/{number}")
-        lines, of_this = lines_of_a_run(source)
-        made += of_this
-        with printed_if_wrong(f"run {number} of seed {seed}", []):
-            check_run(program, source, CONFIG, lines)
-            for _ in range(of_this // 20):
-                fields = fields_of(source, "config")
-                is_bad = source.random() < 0.5
-                config = with_faults(source, fields) if is_bad else object_of(fields)
-                check_run(program, source, config, [*BEGIN, *PROBES])
-            for _ in range(of_this // 100):
-                check_audit(program, source)
-
-
 @parametrised
 def bad_lines(program: Path, count: int) -> None:
-    """This many bad lines, half of them of each seed."""
+    """This many bad lines, half of them of each seed; every twentieth is a configuration, every
+    hundredth an audit."""
     for seed in seeds():
         print(f"  seed {seed}")
-        check_lines(program, seed, count // len(seeds()))
+        made, number = 0, 0
+        while made < count // len(seeds()):
+            number += 1
+            source = random.Random(f"{seed}/{number}")
+            lines, of_this = lines_of_a_run(source)
+            made += of_this
+            with printed_if_wrong(f"run {number} of seed {seed}", []):
+                check_run(program, source, CONFIG, lines)
+                for _ in range(of_this // 20):
+                    fields = fields_of(source, "config")
+                    is_bad = source.random() < 0.5
+                    config = with_faults(source, fields) if is_bad else object_of(fields)
+                    check_run(program, source, config, [*BEGIN, *PROBES])
+                for _ in range(of_this // 100):
+                    check_audit(program, source)
 
 
 def tests(count: int = LINES) -> Tests:

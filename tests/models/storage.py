@@ -106,7 +106,11 @@ class Run:
     def ended(self) -> str | None:
         if self.is_alone:
             fewest, most = self.cells_in_use()
-            late = self.shaded_late()
+            # how many pending targets the cycle shades for their seats, when sessions wait
+            found, late = self.graph.reached(self.graph.roots()), 0
+            for _, target in sorted(self.graph.pending.items()):
+                if target not in found:
+                    found, late = found | self.graph.reached([target]), late + 1
             # A start, an end of marking and an end of the sweep; a step for each slot; two for each
             # slot that is kept, one for each cell.
             cells = self.steps - 3 - self.slots - 2 * self.used
@@ -119,11 +123,3 @@ class Run:
         if self.used > len(self.graph.kinds) - len(self.gone):
             return "more slots in use than may be after two cycles"
         return None
-
-    def shaded_late(self) -> int:
-        """How many pending targets a cycle shades for their seats, when sessions wait."""
-        found, late = self.graph.reached(self.graph.roots()), 0
-        for _, target in sorted(self.graph.pending.items()):
-            if target not in found:
-                found, late = found | self.graph.reached([target]), late + 1
-        return late

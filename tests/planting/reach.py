@@ -30,10 +30,6 @@ ALIAS = re.compile(r"([\w'-]+) as ([\w'-]+)")
 IDLE = re.compile(r"//[^\n]*|\buse [^;]*;")
 
 
-def read(file: str | Path) -> str:
-    return Path(file).read_text(encoding="utf-8")
-
-
 def named_lines(text: str) -> list[str | None]:
     """The name of the definition, or lemma, to which each line of a file of specs/ or proofs/
     belongs: "" of an import, and None of what is no plain definition."""
@@ -140,16 +136,20 @@ class Reach:
         self.everywhere = words_of(IDLE.sub("", types))
         self.imported = re.compile(rf"Rattle\.{crate}\.(proofs|specs\.contracts)\b\.?([\w.+-]*)")
         for path in Path(folder, "specs").rglob("*.antt"):
-            text = Text(read(path))
+            text = Text(path.read_text(encoding="utf-8"))
             self.everywhere |= text.others
             for name, words in text.words.items():
                 self.definitions.setdefault(name, set()).update(words)
         files = {law: self.files_of(law.replace("::", "/")) for law in laws}
         every = set[str]().union(*files.values())
-        texts = {file: Text(read(f"{folder}/{file}")) for file in every}
+        texts = {file: Text(self.read(file)) for file in every}
         for clause in self.clauses:
             if own := files.get(clause.function):
                 self.note(clause, {file: texts[file] for file in own})
+
+    def read(self, file: str) -> str:
+        """What a file of the crate says."""
+        return Path(self.folder, file).read_text(encoding="utf-8")
 
     def files_of(self, path: str) -> set[str]:
         """The files of a law's proof, and those of lemmas that they import; none if they rest on
@@ -161,7 +161,7 @@ class Reach:
             if file in found:
                 continue
             found.add(file)
-            for part, module in self.imported.findall(read(f"{self.folder}/{file}")):
+            for part, module in self.imported.findall(self.read(file)):
                 words = module.strip(".").split(".")
                 tried = ["/".join(words[:count]) for count in range(len(words), 0, -1)]
                 places = [f"{self.folder}/proofs/{it}.antt" for it in tried]
@@ -192,7 +192,7 @@ class Reach:
         names; none if any lies elsewhere."""
         found: set[str] = set()
         for file, text in texts.items():
-            was = read(f"{self.folder}/{file}")
+            was = self.read(file)
             if not file.startswith("specs/") or was.count("\n") != text.count("\n"):
                 return set()
             rows = zip(was.split("\n"), text.split("\n"), named_lines(was))

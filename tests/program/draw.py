@@ -47,14 +47,6 @@ def expected(source: Random) -> tuple[Course, list[bytes], list[bytes], int]:
     return course, rows, shots, errors
 
 
-def check_parsed(course: Course, shot: bytes) -> None:
-    found, slots = read(shot.decode()), model.slots_in_use(course.store)
-    vertices = {serial: (it.colour, serial in course.store.where) for serial, it in slots.items()}
-    same({serial: (it.colour, it.is_held) for serial, it in found.vertices.items()}, vertices)
-    edges = [(start, rights, end) for (start, end), rights in found.edges.items()]
-    same((edges, found.seats), (model.edges(course), course.graph.seats))
-
-
 def random_pictures(program: Path) -> None:
     """Random runs: after each line, and at the end, the picture is that of a model."""
     for name, source in sources(RUNS, "picture "):
@@ -64,8 +56,12 @@ def random_pictures(program: Path) -> None:
         with printed_if_wrong(name, rows):
             same(asked(program, "draw", "--each", given=given), (b"".join(shots), status))
             same(asked(program, "draw", given=given), (last, status))
-            for shot in shots[-1:]:
-                check_parsed(course, shot)
+            # the last picture is read as what the model has
+            found, slots = read(shots[-1].decode()), model.slots_in_use(course.store)
+            shown = {it: (vertex.colour, vertex.is_held) for it, vertex in found.vertices.items()}
+            same(shown, {it: (slots[it].colour, it in course.store.where) for it in slots})
+            edges = [(start, rights, end) for (start, end), rights in found.edges.items()]
+            same((edges, found.seats), (model.edges(course), course.graph.seats))
 
 
 @parametrised

@@ -90,19 +90,6 @@ def selections(crates: Path, text: str) -> Iterator[Selection]:
         yield Selection(file_of(crates, crate, last), bool(is_without) or not names, names)
 
 
-def items_of(crates: Path, page: str) -> list[Item]:
-    section = SECTION.search(page)
-    found = ITEM.findall(section[0] if section else "")
-    return [Item(title, [*selections(crates, text)]) for title, text in found]
-
-
-def numbers(page: str) -> list[int]:
-    """What a page says of the headline: definitions, files, lines, types of the code, and the
-    number of the last item that it needs."""
-    found = NUMBERS.search(" ".join(page.split()))
-    return [int(it) for it in found.groups()] if found else []
-
-
 def as_listed(places: set[Place]) -> set[Place]:
     """The definitions, with the files of the code and the modules of libraries as one each."""
     return {it if it.file.endswith(".antt") else Place(it.file, "") for it in places}
@@ -179,8 +166,12 @@ def complaints(
     sources: Sources, page: str, promises: list[Promise] = PROMISES, headline: Place = HEADLINE
 ) -> Iterator[str]:
     """What is wrong with the lists and the numbers of a page."""
-    items = items_of(sources.crates, page)
-    *said, last = numbers(page) or [0]
+    section = SECTION.search(page)
+    found = ITEM.findall(section[0] if section else "")
+    items = [Item(title, [*selections(sources.crates, text)]) for title, text in found]
+    # what a page says of the headline, and the number of the last item that it needs
+    told = NUMBERS.search(" ".join(page.split()))
+    *said, last = map(int, told.groups()) if told else [0]
     of_headline = rests_on(sources, [headline])
     yield from misnamed(sources, items, promises)
     yield from miscited(sources, page, promises)

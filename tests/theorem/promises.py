@@ -54,15 +54,6 @@ LIST = Path(__file__).with_suffix(".txt").read_text(encoding="utf-8")
 PROMISES = [promise_of(paragraph) for paragraph in LIST.split("\n\n")[1:]]
 
 
-def named_by(sources: Sources, contract: Contract) -> set[Place]:
-    clauses = sources.code(contract.file).contract(contract.function)
-    lacking = set(contract.clauses) - set(clauses)
-    if lacking:
-        raise ValueError(f"{contract.file}, {contract.function}: no clause {', '.join(lacking)}")
-    chosen = contract.clauses or clauses
-    return {place for name in chosen for place in sources.referred_to(contract.file, clauses[name])}
-
-
 def closure(
     sources: Sources, begins: Iterable[Place], skipped: frozenset[Place] = frozenset()
 ) -> set[Place]:
@@ -80,11 +71,17 @@ def rests_on(
     sources: Sources, begins: Iterable[Place | Contract], skipped: frozenset[Place] = frozenset()
 ) -> set[Place]:
     """All on which something rests."""
-    named = (
-        named_by(sources, it) if isinstance(it, Contract) else {sources.defined(it)}
-        for it in begins
-    )
-    return closure(sources, set[Place]().union(*named), skipped)
+    named: set[Place] = set()
+    for it in begins:
+        if isinstance(it, Place):
+            named.add(sources.defined(it))
+            continue
+        clauses = sources.code(it.file).contract(it.function)
+        if lacking := {*it.clauses} - {*clauses}:
+            raise ValueError(f"{it.file}, {it.function}: no clause {', '.join(lacking)}")
+        for name in it.clauses or clauses:
+            named.update(sources.referred_to(it.file, clauses[name]))
+    return closure(sources, named, skipped)
 
 
 class Size(NamedTuple):
