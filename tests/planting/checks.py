@@ -76,9 +76,7 @@ class Checks:
     """The checks of a crate: what the crate's own checks kept (`were`), what these keep, how many
     there were, and the folder for their reports."""
 
-    def __init__(
-        self, crate: Crate, turns: Turns, rank: int, seeds: str | None, log: str | None
-    ) -> None:
+    def __init__(self, crate: Crate, turns: Turns, rank: int, seeds: str, log: str) -> None:
         self.crate, self.turns, self.rank, self.log = crate, turns, rank, log
         places = [f"{crate.folder}/{kit.KEPT}", *[f"{it}/{crate.name}" for it in [seeds] if it]]
         self.were = [it for it in places if os.path.isdir(it)]

@@ -17,6 +17,8 @@ from pathlib import Path
 
 # A line of a file, by the file's path in the crate and the line's number.
 Place = tuple[str, int]
+# The contracts of functions by their paths, each with the size of the function's body.
+Contracts = dict[str, tuple[str, int]]
 WORD = re.compile(r"[\w'-]+")
 # The head of a definition, with its name, and the lines that go on with what stands above them.
 HEAD = re.compile(r"(?:(?:abbrev|unfoldable|pub|record|data)\s+)+([^\s:({]+)|([^\s:({]+) :")
@@ -119,16 +121,10 @@ def clauses_of(function: str, contract: str, size: int) -> list[Clause]:
 
 
 class Reach:
-    """What the functions of a crate reach. Each is given by its path, with the text of its contract
-    and the size of its body."""
+    """What the functions of a crate reach."""
 
     def __init__(
-        self,
-        folder: str,
-        crate: str,
-        functions: dict[str, tuple[str, int]],
-        laws: list[str],
-        types: str,
+        self, folder: str, crate: str, functions: Contracts, laws: list[str], types: str
     ) -> None:
         self.folder, self.laws = folder, laws
         self.clauses = [it for f, told in functions.items() for it in clauses_of(f, *told)]

@@ -44,6 +44,10 @@ def waiting(said: list[str], edited: set[str]) -> set[str]:
     return found
 
 
+# A function, and the number of a copy of it.
+Numbered = tuple[object, int]
+
+
 class Report:
     """What a check said of the crate of this name with edited functions: the faults of each, those
     that are proved, those whose text cannot be read, and what else is wrong.
@@ -56,13 +60,13 @@ class Report:
         self,
         crate: str,
         ran: Ran,
-        lines: Mapping[tuple[str, int], tuple[object, int]],
+        lines: Mapping[Place, Numbered],
         symbols: set[str],
         holes: set[str],
     ) -> None:
         self.faults: dict[str, list[str]] = {}
         self.proved: set[str] = set()
-        self.unread: set[tuple[object, int]] = set()
+        self.unread: set[Numbered] = set()
         self.stray: list[str] = []
         self.crate, self.lines, self.symbols, self.holes = crate, lines, symbols, holes
         said = ran.lines()

@@ -191,8 +191,8 @@ class Planting:
         self,
         crates: list[Crate],
         turns: Turns,
-        seeds: str | None = None,
-        log: str | None = None,
+        seeds: str = "",
+        log: str = "",
         are_all: bool = False,
     ) -> None:
         # (its first call sets a signal's handler, which only the main thread may)

@@ -65,7 +65,7 @@ class Crate:
     def look_at(self, place: Place) -> None:
         """Takes what callers see of a function, a type or a trait."""
         code = self.sources.code(place.file)
-        self.take_functions(place.file, code.parts[0], place.name)
+        self.take_functions(place.file, code.parts[0], f".* {place.name}")
         if place.name not in code.declared:
             return
         declared = code.declaration(place.name)
@@ -78,7 +78,7 @@ class Crate:
                 if self.shows(file, block, place):
                     ghosts = GHOST.findall(block.text)
                     self.take_ghosts(file, block.text, ghosts)
-                    self.take_functions(file, block.text, None, bool(block.trait), ghosts)
+                    self.take_functions(file, block.text, ".*" if block.trait else "pub .*", ghosts)
 
     def shows(self, file: str, block: Block, place: Place) -> bool:
         """Whether a block is about a type or a trait, and about nothing that is not public."""
@@ -93,18 +93,11 @@ class Crate:
                 said = text[item.end() : end_of(text, item.end() - 1) - 1]
                 self.seen.append(Seen(file, words(said), bound))
 
-    def take_functions(
-        self,
-        file: str,
-        text: str,
-        name: str | None,
-        are_all: bool = False,
-        ghosts: Iterable[str] = (),
-    ) -> None:
-        """Takes the functions of a text of this name, or those that are public, or all: their
-        clauses, and the types in their heads."""
+    def take_functions(self, file: str, text: str, head: str, ghosts: Iterable[str] = ()) -> None:
+        """Takes the functions of a text whose heads match: their clauses, and the types in their
+        heads."""
         for found in FUNCTION.finditer(text):
-            if found[2] == name if name else are_all or found[1]:
+            if re.fullmatch(head, found[0]):
                 own = function_of(text, found)
                 self.seen += [Seen(file, said, [*own.bound, *ghosts]) for _, said in own.clauses]
                 self.take_types(file, own.head)
