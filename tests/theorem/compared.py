@@ -135,15 +135,6 @@ def misplaced(
         yield f"{it} comes up to item {last}, but the headline does not need it"
 
 
-def misnamed(sources: Sources, items: list[Item], promises: list[Promise]) -> Iterator[str]:
-    """What the items name that is not there."""
-    for item in items:
-        if item.title not in {it.title for it in promises}:
-            yield f"no promise has the title {item.title}"
-        for selection in item.selections:
-            yield from selection.misnamed(sources)
-
-
 def miscited(sources: Sources, page: str, promises: list[Promise]) -> Iterator[str]:
     """What the page says wrongly of contracts, and the functions that it does not name."""
     for function, clause, file, definition in CITED.findall(" ".join(page.split())):
@@ -173,7 +164,11 @@ def complaints(
     told = NUMBERS.search(" ".join(page.split()))
     *said, last = map(int, told.groups()) if told else [0]
     of_headline = rests_on(sources, [headline])
-    yield from misnamed(sources, items, promises)
+    for item in items:
+        if item.title not in {it.title for it in promises}:
+            yield f"no promise has the title {item.title}"
+        for selection in item.selections:
+            yield from selection.misnamed(sources)
     yield from miscited(sources, page, promises)
     read: set[Place] = set()
     for promise in promises:
