@@ -143,17 +143,11 @@ def is_edge(value: object) -> bool:
     return is_number(value[0]) and is_rights(value[1]) and is_number(value[2])
 
 
-def is_list_of(is_one: Callable[[object], bool], value: object) -> bool:
-    return isinstance(value, list) and all(map(is_one, value))
-
-
 def is_text(value: object) -> bool:
     return isinstance(value, str)
 
 
 NUMBERS = ["seat", "over", "from", "to", "at", "agent", "actor", "next", "slots", "cells"]
-
-
 GOOD: dict[str, Callable[[Any], bool]] = {
     **dict.fromkeys(NUMBERS, is_number),
     "op": lambda value: True,
@@ -161,8 +155,8 @@ GOOD: dict[str, Callable[[Any], bool]] = {
     "kind": lambda value: value in ("subject", "document"),
     "text": lambda value: isinstance(value, str) and len(value.encode()) <= LONGEST_TEXT,
     "name": is_text,
-    "principals": lambda value: is_list_of(is_text, value),
-    "edges": lambda value: is_list_of(is_edge, value),
+    "principals": lambda value: isinstance(value, list) and all(map(is_text, value)),
+    "edges": lambda value: isinstance(value, list) and all(map(is_edge, value)),
 }
 
 
