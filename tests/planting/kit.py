@@ -18,9 +18,9 @@ from pathlib import Path
 from typing import Any, NoReturn, TypeAlias
 
 WRITTEN_FOR = "rattle-kit-13f logic dac8208d650f15bf"
-# What is used of each program, and of what they make: of a function also the places of its parts, as
-# bytes of its file; of a source the bytes of its files by their paths, and what declares its types.
-# (A field of what they make is looked for once one is made.)
+# What is used of each program, and of what they make: of a function also the places of its parts,
+# as bytes of its file; of a source the bytes of its files by their paths, and what declares its
+# types. (A field of what they make is looked for once one is made.)
 USED_OF_RT = "rtlib must_fail read_edit unread processors free REFUSED AT_LIMIT SETTLED"
 USED_OF_RTLIB = "KIT RATTLE PARTS KEPT STALE guarded crates_below text_of files_of"
 USED_OF_BODIES = "Source Source.read named"

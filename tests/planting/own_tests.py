@@ -1,7 +1,7 @@
 """Tests of how planted bugs are read and made, of what a law reaches, of what is taken from reports
-of checks, and of what is said over another kit, on what made_up/ has; and of what the runners report:
-that of planted bugs, of a crate of three lines, can fail, and credits no bug with another's refusal;
-tests/run, given names, runs the tests of these names, and fails if a name is no test's.
+of checks, and of what is said over another kit, on what made_up/ has; and of what the runners
+report: that of planted bugs, of a crate of three lines, can fail, and credits no bug with another's
+refusal; tests/run, given names, runs the tests of these names, and fails if a name is no test's.
 
 What needs the toolchain is imported where it is tested: tests/run does without it.
 """

@@ -1,5 +1,5 @@
-"""The planted bugs of a crate, tried: many in one check, and the others one by one; those of several
-crates at once, and the lines that are printed."""
+"""The planted bugs of a crate, tried: many in one check, and the others one by one; and those of
+several crates at once, with the lines that are printed."""
 
 import os
 import sys

@@ -1,5 +1,5 @@
-"""Who may run a check now: so many at once, the dearest crates first; and what was changed lately, and
-so comes before what has its turn by the date."""
+"""Who may run a check now: so many at once, the dearest crates first; and what was changed lately,
+and so comes before what has its turn by the date."""
 
 import itertools
 import os

@@ -1,5 +1,5 @@
-"""Lines and their answers: the worked cases of tests/cases, those that stand in lines/, and those of
-many forms or of many lines, of runs and of audits. Each answer is written by hand from
+"""Lines and their answers: the worked cases of tests/cases, those that stand in lines/, and those
+of many forms or of many lines, of runs and of audits. Each answer is written by hand from
 docs/PROTOCOL.md."""
 
 import json

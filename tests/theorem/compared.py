@@ -1,5 +1,5 @@
-"""What docs/THEOREM.md says has to be read, compared with what its promises rest on: its items, with
-files and what to read of each.
+"""What docs/THEOREM.md says has to be read, compared with what its promises rest on: its items,
+with files and what to read of each.
 
 Items stand behind the heading `What to read`: those with a number, and paragraphs that begin with a
 title in bold. An item ends at the next one or at an empty line.

@@ -1,5 +1,5 @@
-"""The definitions of a file of crates/*/specs, by its text: the words of a term that it does not bind
-itself, the names that `use` gives a file, and the words that each definition refers to."""
+"""The definitions of a file of crates/*/specs, by its text: the words of a term that it does not
+bind itself, the names that `use` gives a file, and the words that each definition refers to."""
 
 import re
 from collections.abc import Callable, Iterable, Iterator
