@@ -27,19 +27,20 @@ def quoted(words: Iterable[str]) -> list[str]:
     return [f'"{word}"' for word in words]
 
 
-FILE = transcripts(Path(__file__).with_name("values.txt"))
-VALUES = {name: [line.decode() for line in found.lines] for name, found in FILE.items()}
+FILE = {name: it.lines for name, it in transcripts(Path(__file__).with_name("values.txt")).items()}
+BYTES = {name[6:]: lines for name, lines in FILE.items() if name.startswith("bytes-")}
+VALUES = {
+    name: [line.decode() for line in lines]
+    for name, lines in FILE.items()
+    if not name.startswith("bytes-")
+}
 GOOD = {name[5:]: values for name, values in VALUES.items() if name.startswith("good-")}
 SERIALS = ["1", "2", "3", "4", "99"]
 # The greatest whole number that is nearer to a float than to what is beyond the range is among
 # them; the next one is not JSON.
 LIMIT = 2**1024 - 2**970
-NUMBERS = VALUES["numbers"] + [str(LIMIT - 1), "0." + "0" * 5000 + "1"]
-NO_NUMBERS = VALUES["no-numbers"] + [str(LIMIT), str(-LIMIT), "9" * 309, "1" + "0" * 5000]
-NO_NUMBERS.append("-" + "9" * 400)
-BROKEN = [b"\x80", b"\xff", b"\xfe\xff", b"\xc0\xaf", b"\xc1\xbf", b"\xe0\x80\xaf", b"\xed\xa0\x80"]
-BROKEN += [b"\xed\xbf\xbf", b"\xf0\x80\x80\xaf", b"\xf4\x90\x80\x80"]
-BROKEN += [b"\xc3", b"\xe2\x82", b"\xf0\x9f\x98", b"\xf8\x88\x80\x80\x80", b"\xc3\x28"]
+NUMBERS = VALUES["numbers"] + [str(LIMIT - 1)]
+NO_NUMBERS = VALUES["no-numbers"] + [str(LIMIT), str(-LIMIT)]
 CONTROLS = [bytes([byte]) for byte in range(32) if byte != 10]
 
 # Values at and beyond what a field may have; if a field is not named, those of numbers.
@@ -99,156 +100,70 @@ def value(source: Random) -> str:
 
 def rewritten(source: Random, word: str) -> str:
     """The text of a key or value, some of its letters as escapes, which means the same."""
-
-    def escaped(letter: str) -> str:
-        code = f"{ord(letter):04x}"
-        return "\\u" + source.choice([code, code.upper()])
-
-    return "".join(escaped(it) if source.random() < 0.5 else it for it in word)
+    codes = [source.choice([f"\\u{ord(it):04x}", f"\\u{ord(it):04X}"]) for it in word]
+    return "".join(source.choice(pair) for pair in zip(word, codes))
 
 
-# Faults in fields: each changes those at a place.
-
-
-def renamed(source: Random, fields: Fields, at: int) -> None:
-    """Another key in place of one."""
-    key, given = fields[at]
-    fields[at] = (
-        source.choice([source.choice(VALUES["keys"]), key.upper(), key + "s", key[1:]]),
-        given,
-    )
-
-
-def doubled(source: Random, fields: Fields, at: int) -> None:
-    """A key once more, before or after, with the same value or another."""
-    key, given = fields[at]
-    place = source.randrange(len(fields) + 1)
-    fields.insert(place, (key, source.choice([given, value(source)])))
-
-
-def escaped_key(source: Random, fields: Fields, at: int) -> None:
-    """A key with escapes for some of its letters."""
-    fields[at] = (rewritten(source, fields[at][0]), fields[at][1])
-
-
-def escaped_value(source: Random, fields: Fields, at: int) -> None:
-    """A text with escapes for some of its letters."""
-    key, given = fields[at]
-    if given[:1] == '"' and "\\" not in given:
-        fields[at] = (key, f'"{rewritten(source, given[1:-1])}"')
-
-
-def removed(_: Random, fields: Fields, at: int) -> None:
-    """One field fewer."""
-    del fields[at]
-
-
-def replaced(source: Random, fields: Fields, at: int) -> None:
-    """Any other value."""
-    fields[at] = (fields[at][0], value(source))
-
-
-def at_a_limit(source: Random, fields: Fields, at: int) -> None:
-    """A value at or beyond a limit of the field."""
-    key = fields[at][0]
+def at_a_limit(source: Random, key: str) -> str:
+    """A value at or beyond a limit of a field."""
     if key == "text":
-        near = [text_of_bytes(source)]
-    else:
-        numbers = NUMBERS if source.random() < 0.8 else NO_NUMBERS
-        near = AT_A_LIMIT.get(key, numbers)
-    fields[at] = (key, source.choice(near))
+        return text_of_bytes(source)
+    return source.choice(AT_A_LIMIT.get(key, source.choice([NUMBERS] * 4 + [NO_NUMBERS])))
 
 
-def wrapped(source: Random, fields: Fields, at: int) -> None:
-    """A value inside another, or with a little before or after it."""
-    key, given = fields[at]
-    around = [f"[{given}]", f'{{"a":{given}}}', f'"{given}"', f"[{given},1]", f" {given} "]
-    fields[at] = (key, source.choice([*around, f"-{given}", f"{given}.0", f"{given}e0"]))
-
-
-def moved_inside(source: Random, fields: Fields, at: int) -> None:
-    """A field inside the value of another."""
-    key, given = fields[at]
-    fields[at] = (source.choice(VALUES["keys"]), f'{{"{key}":{given}}}')
-
-
-def added(source: Random, fields: Fields, at: int) -> None:
-    """One more field, which may be one of another op."""
-    fields.insert(at, (source.choice(VALUES["keys"]), value(source)))
-
-
-IN_FIELDS = [renamed, doubled, escaped_key, escaped_value, removed, replaced]
-IN_FIELDS += [at_a_limit, at_a_limit, at_a_limit, wrapped, moved_inside, added]
-
-
-# Faults in bytes.
-
-
-def cut(source: Random, line: bytes) -> bytes:
-    """The line up to some byte."""
-    return line[: source.randrange(len(line) + 1)]
-
-
-def spoilt(source: Random, line: bytes) -> bytes:
-    """Some bytes put in, or in place of others."""
-    at, end = source.randrange(len(line) + 1), source.randint(0, 2)
-    kinds = [
-        source.choice(BROKEN),
-        source.choice(CONTROLS),
-        source.choice(VALUES["whole"]).encode(),
+def faulty_fields(source: Random, key: str, given: str) -> Fields:
+    """What stands in place of a field that is at fault: nothing, or two, or one with another key or
+    value, or with escapes for some of its letters."""
+    other = source.choice(VALUES["keys"])
+    kind = source.randrange(12)
+    if kind < 3:
+        return [(key, at_a_limit(source, key))]
+    if kind == 3 and given[:1] == '"' and "\\" not in given:
+        given = rewritten(source, given[1:-1]).join('""')
+    forms: list[Fields] = [
+        [(key, given)],
+        [(rewritten(source, key), given)],
+        [(source.choice([other, key.upper(), key + "s", key[1:]]), given)],
+        [(key, given), (key, source.choice([given, value(source)]))],
+        [],
+        [(key, value(source))],
+        [(key, source.choice(VALUES["around"]) % given)],
+        [(other, f'{{"{key}":{given}}}')],
+        [(key, given), (other, value(source))],
     ]
-    odd = source.choice([*kinds, bytes([source.choice([*range(10), *range(11, 256)])])])
-    return line[:at] + odd + line[at + end :]
+    return forms[kind - 3]
 
 
-def marked(source: Random, line: bytes) -> bytes:
-    """A byte order mark before the line, or what may pass for one."""
-    return source.choice([b"\xef\xbb\xbf", b"\xfe\xff", b"\xff\xfe", b"\0"]) + line
-
-
-def trailed(source: Random, line: bytes) -> bytes:
-    """Something after the line, white space or not."""
-    ends = [b",", b"}", b"]", b"{}", b"null", b"x", b"\0", b"\r", b" \t\r", b"\x0b", b"\x0c"]
-    return line + source.choice([*ends, b"\xc2\xa0", b"//", b"/**/", b"#", line])
-
-
-def spaced(source: Random, line: bytes) -> bytes:
-    """White space at a mark of the line, or what looks like it."""
-    mark = source.choice([b",", b":", b"{", b"}"])
-    spaces = [b" ", b"\t", b"\r", b"  \t\r ", b"\x0c", b"\x0b", b"\xc2\xa0", b"\xe2\x80\xa8"]
-    space = source.choice([*spaces, b"/* */"])
-    return line.replace(mark, source.choice([mark + space, space + mark]))
-
-
-def enclosed(source: Random, line: bytes) -> bytes:
-    """The line inside something else."""
-    around = [b"[%s]", b'{"a":%s}', b'"%s"', b"(%s)", b" %s ", b"[%s", b"%s]"]
-    return source.choice(around) % line
-
-
-def misspelt(source: Random, line: bytes) -> bytes:
-    """Some marks of the line in another form, or none in their place."""
-    forms = [(b'"', b"'"), (b":", b"="), (b",", b";"), (b",", b""), (b'"', b"")]
-    old, new = source.choice([*forms, (b"}", b",}"), (b"{", b"{,")])
-    return line.replace(old, new, source.randint(1, 3))
-
-
-def turned(source: Random, line: bytes) -> bytes:
-    """One bit turned."""
-    if not line:
-        return line
-    at = source.randrange(len(line))
-    return line[:at] + bytes([line[at] ^ 1 << source.randrange(8)]) + line[at + 1 :]
+def faulty_bytes(source: Random, line: bytes) -> bytes:
+    """A line that is at fault in its bytes: cut, or with some put in, or in place of others; with
+    something before it, behind it or around it; with white space at its marks, or with marks in
+    another form; or with one bit turned."""
+    kind, at = source.randrange(11), source.randrange(len(line) + 1)
+    if kind < 3:
+        anything = [bytes([source.choice([*range(10), *range(11, 256)])])]
+        whole = [word.encode() for word in VALUES["whole"]]
+        odd = source.choice(source.choice([BYTES["broken"], CONTROLS, whole, anything]))
+        return line[:at] + odd + line[at + source.randint(0, 2) :]
+    if kind < 5:
+        turned = bytes([byte ^ 1 << source.randrange(8) for byte in line[at : at + 1]])
+        return line[:at] + turned + line[at + 1 :]
+    mark, space = source.choice([b",", b":", b"{", b"}"]), source.choice(BYTES["spaces"])
+    old, _, new = source.choice(BYTES["misspelt"]).partition(b" ")
+    forms = [
+        line[:at],
+        source.choice(BYTES["begins"]) + line,
+        line + source.choice([*BYTES["ends"], line]),
+        line.replace(mark, source.choice([mark + space, space + mark])),
+        source.choice(BYTES["around"]) % line,
+        line.replace(old, new, source.randint(1, 3)),
+    ]
+    return forms[kind - 5]
 
 
 def lengthened(source: Random, line: bytes) -> bytes:
     """White space up to the longest line, or a byte more, which ends a run."""
     size = source.choice([LONGEST_LINE - 1] * 4 + [LONGEST_LINE] * 4 + [LONGEST_LINE + 1])
     return line.ljust(size) if source.random() < 0.5 else line.rjust(size, b"\t")
-
-
-IN_BYTES = [cut, spoilt, spoilt, spoilt, marked, trailed, spaced, enclosed, misspelt]
-IN_BYTES += [turned, turned]
 
 
 def fields_of(source: Random, form: str) -> Fields:
@@ -279,13 +194,14 @@ def with_faults(source: Random, fields: Fields) -> bytes:
     for _ in range(in_fields):
         # The fields besides the op are the more often at fault, since an unknown op hides what is
         # wrong with them.
-        ops = [field[0] == "op" for field in fields]
-        places = [at for at, is_op in enumerate(ops) if not is_op or source.random() < 0.2]
+        places = [it for it in fields if it[0] != "op" or source.random() < 0.2]
         if places:
-            source.choice(IN_FIELDS)(source, fields, source.choice(places))
+            at = fields.index(source.choice(places))
+            fields[at : at + 1] = faulty_fields(source, *fields[at])
+            source.shuffle(fields)
     line = object_of(fields)
     for _ in range(in_bytes):
-        line = source.choice(IN_BYTES)(source, line)
+        line = faulty_bytes(source, line)
     if source.random() < 0.02:
         line = lengthened(source, line)
     return line.replace(b"\n", b"\r")
