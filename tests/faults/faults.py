@@ -100,17 +100,15 @@ def runs(program: Path, words: list[str], given: bytes) -> Callable[[Fault], Ran
     return functools.partial(ran, program, words, given)
 
 
-def each(
-    attempt: Callable[[Fault], Any], fault: Fault, to_the_end: bool = False
-) -> Iterator[tuple[int, Any]]:
-    """The results of the attempt if the call 1, 2, .. goes wrong, or all calls from it on, until
-    none of that number is made; a result has in `wrong` how many calls did."""
+def each(attempt: Callable[[Fault], Any], fault: Fault) -> Iterator[tuple[int, Any]]:
+    """The results of the attempt if the call 1, 2, .. goes wrong, or all calls from it on where the
+    last is WITHOUT_END, until none of that number is made; a result has in `wrong` how many calls
+    did."""
     library()
     with ThreadPoolExecutor(WORKERS) as pool:
         for start in itertools.count(1, BLOCK):
             numbers = range(start, start + BLOCK)
-            lasts = [WITHOUT_END if to_the_end else number for number in numbers]
-            faults = [fault._replace(first=it, last=last) for it, last in zip(numbers, lasts)]
+            faults = [fault._replace(first=it, last=max(it, fault.last)) for it in numbers]
             for number, found in zip(numbers, pool.map(attempt, faults)):
                 if not found.wrong:
                     return
@@ -118,13 +116,12 @@ def each(
 
 
 def memory_refused(
-    attempt: Callable[[Fault], Ran],
-    kind_of: Callable[[Ran], str | None],
-    to_the_end: bool = False,
+    attempt: Callable[[Fault], Ran], kind_of: Callable[[Ran], str | None], last: int = 0
 ) -> Counter[str]:
-    """The ends of runs, as each allocation fails in turn. A run of no kind is not allowed."""
+    """The ends of runs, as each allocation fails in turn, or all from it on where the last is
+    WITHOUT_END. A run of no kind is not allowed."""
     counts: Counter[str] = Counter()
-    for number, found in each(attempt, Fault("memory"), to_the_end):
+    for number, found in each(attempt, Fault("memory", last=last)):
         kind = kind_of(found)
         at = f"at allocation {number}: status {found.status}, {shown(found.output)}"
         assert kind is not None, at

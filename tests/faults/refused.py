@@ -6,15 +6,17 @@ the same: what comes after it is what the program, with all its memory, answers 
 it, or with it. All other answers are in scripts.py. Each test prints how many calls went wrong.
 """
 
+import functools
 import os
 from collections import Counter
 from collections.abc import Callable, Sequence
-from functools import partial
 from pathlib import Path
+from typing import NamedTuple
 
-from checking import Tests, parametrised, same
+from checking import Tests, named_in, parametrised, same
 from faults import faults, scripts
-from faults.faults import BEFORE_ANY, FAILS, INTERRUPTED, Fault, Ran, one_of, ran, tell_refused
+from faults.faults import BEFORE_ANY, FAILS, INTERRUPTED, WITHOUT_END, Fault, Ran, one_of, ran
+from faults.faults import tell_refused
 from running import asked, joined
 from transcripts import Transcript
 
@@ -30,10 +32,6 @@ FIRST_LINES = {"run": joined(AUDIT.lines[0], scripts.GREETING[0]), "audit": AUDI
 FEW = 16
 
 End = tuple[bytes, int]
-# The answers to the lines of an input.
-Answers = Callable[[bytes], list[bytes]]
-# How a run on an input ends.
-Ending = Callable[[bytes], End]
 Places = tuple[int, ...]
 
 
@@ -42,67 +40,45 @@ def end_with(answers: Sequence[bytes]) -> End:
     return joined(*answers), int(any(b'"error"' in answer for answer in answers))
 
 
-class References:
-    """The answers of a program with all its memory to the lines of a script that were carried out,
-    asked once for each set of them."""
-
-    def __init__(self, ask: Callable[[Places], Sequence[bytes | None]]):
-        self.ask = ask
-        self.known: dict[Places, dict[int, bytes | None]] = {}
-
-    def answers(self, carried_out: Places) -> dict[int, bytes | None]:
-        if carried_out not in self.known:
-            self.known[carried_out] = dict(zip(carried_out, self.ask(carried_out)))
-        return self.known[carried_out]
-
-    def kind(self, answers: Sequence[bytes | None]) -> str | None:
-        """The result that the answers, None for a line without one, show: as if the lines that
-        lacked memory were not sent, or the first of them carried out."""
-        wanting = [at for at, answer in enumerate(answers) if answer in (None, NO_MEMORY)]
-        heard = [at for at, answer in enumerate(answers) if answer not in (None, NO_MEMORY)]
-        kinds = {"not sent": heard, "carried out": sorted(heard + wanting[:1])}
-        seen = [kind for kind, at in kinds.items() if self.agrees(answers, heard, tuple(at))]
-        if not wanting:
-            return "no line in want" if seen else None
-        return " or ".join(seen) or None
-
-    def agrees(
-        self, answers: Sequence[bytes | None], heard: list[int], carried_out: Places
-    ) -> bool:
-        found = self.answers(carried_out)
-        return all(found.get(place) == answers[place] for place in heard)
+def kind_of_answers(
+    ask: Callable[[Places], Sequence[bytes | None]], answers: Sequence[bytes | None]
+) -> str | None:
+    """The result that the answers, None for a line without one, show: as if the lines that lacked
+    memory were not sent, or the first of them carried out. A program with all its memory is asked
+    for its answers to the lines at some places."""
+    wanting = [at for at, answer in enumerate(answers) if answer in (None, NO_MEMORY)]
+    heard = [at for at in range(len(answers)) if at not in wanting]
+    seen = []
+    for kind, places in {"not sent": heard, "carried out": sorted(heard + wanting[:1])}.items():
+        found = dict(zip(places, ask(tuple(places))))
+        if all(found.get(place) == answers[place] for place in heard):
+            seen.append(kind)
+    if not wanting:
+        return "no line in want" if seen else None
+    return " or ".join(seen) or None
 
 
-def references_of(program: Path, script: Transcript) -> References:
-    """The answers of `run` to lines of a script."""
+@parametrised
+def memory_refused(program: Path, script: Transcript, last: int = 0) -> None:
+    """Each allocation of a run fails, alone or with all after it."""
     opening, *lines = script.lines
 
+    @functools.cache
     def ask(places: Places) -> list[bytes]:
         given = joined(opening, *(lines[place] for place in places))
         return ran(program, ["run"], given, Fault()).output.splitlines()
 
-    return References(ask)
+    def kind_of(found: Ran) -> str | None:
+        answers = found.output.splitlines()
+        if not answers or (answers == [NO_MEMORY] and found.status == 1):
+            return {**BEFORE_ANY, (NO_MEMORY + b"\n", 1): "opening refused"}.get(found[:2])
+        if len(answers) != len(script.answers) or found[:2] != end_with(answers):
+            return None
+        return kind_of_answers(ask, answers)
 
-
-def kind_of_run(references: References, script: Transcript, found: Ran) -> str | None:
-    """The result of a run that lacked some memory; None if it is not allowed."""
-    answers = found.output.splitlines()
-    if not answers or (answers == [NO_MEMORY] and found.status == 1):
-        return {**BEFORE_ANY, (NO_MEMORY + b"\n", 1): "opening refused"}.get(found[:2])
-    if len(answers) != len(script.answers) or found[:2] != end_with(answers):
-        return None
-    return references.kind(answers)
-
-
-@parametrised
-def memory_refused(program: Path, script: Transcript, to_the_end: bool = False) -> None:
-    """Each allocation of a run fails, alone or with all after it."""
-    references = references_of(program, script)
     attempt = faults.runs(program, ["run"], script.given)
     same(attempt(Fault())[:2], end_with(script.answers), "with memory")
-    counts = faults.memory_refused(
-        attempt, lambda found: kind_of_run(references, script, found), to_the_end
-    )
+    counts = faults.memory_refused(attempt, kind_of, last)
     tell_refused(counts)
     assert any("not sent" in kind for kind in counts), "no line was refused"
 
@@ -123,15 +99,6 @@ def memory_of_one_answer_refused(program: Path, cases: list[Transcript], least: 
     assert counts["out of memory"] >= least, "too little was out of memory"
 
 
-def answers_to(script: Transcript, given: bytes) -> list[bytes]:
-    """The answers to a script that is cut after these bytes; a cut line is not JSON."""
-    rows = given.splitlines()
-    if rows[:1] != script.lines[:1]:
-        return [NOT_JSON]
-    pairs = zip(rows[1:], script.pairs)
-    return [answer if row == line else NOT_JSON for row, (line, answer) in pairs]
-
-
 def memory_of_texts_refused(program: Path) -> None:
     """Each allocation fails when a text is asked for, or a command line is refused: it is the same
     text, or none and status 2."""
@@ -145,35 +112,65 @@ def memory_of_texts_refused(program: Path) -> None:
     assert counts["command line refused"] > 0, "no command line was refused"
 
 
-def end_of_run(script: Transcript, given: bytes) -> End:
-    """The output and status of a run on a script that is cut after these bytes."""
-    return end_with(answers_to(script, given))
+class Mode(NamedTuple):
+    """A mode of the program and the script that it reads: what it answers to bytes from the begin
+    of that, as soon as they are there; and how it ends behind them, if the input ends, or if it
+    cannot be read."""
+
+    word: str
+    script: Transcript
+    told: Callable[[bytes], list[bytes]]
+    end: Callable[[bytes], End]
+    cut_off: Callable[[bytes], End]
 
 
-def end_of_audit(audit: Transcript, given: bytes) -> End:
-    """The output and status of an audit that is cut after these bytes: the goal is reached by the
-    last step but two, and not before."""
+def answers_to(script: Transcript, given: bytes) -> list[bytes]:
+    """The answers to a script that is cut after these bytes; a cut line is not JSON."""
     rows = given.splitlines()
-    if len(rows) < 2 or rows != audit.lines[: len(rows)]:
-        return joined(NOT_JSON), 1
-    if len(rows) < len(audit.lines) - 2:
-        return b'{"missing":"r","verdict":"goal missing"}\n', 1
-    return audit.wanted, 0
+    if rows[:1] != script.lines[:1]:
+        return [NOT_JSON]
+    pairs = zip(rows[1:], script.pairs)
+    return [answer if row == line else NOT_JSON for row, (line, answer) in pairs]
 
 
-def check_calls(
-    what: str,
-    attempt: Callable[[Fault], Ran],
-    fault: Fault,
-    wanted: Callable[[int], End],
-    to_the_end: bool = False,
-) -> int:
+def run_of(script: Transcript) -> Mode:
+    """A run answers each line when it is whole."""
+
+    def told(given: bytes) -> list[bytes]:
+        whole = given[: given.rfind(b"\n") + 1]
+        return answers_to(script, whole) if whole else []
+
+    def end(given: bytes) -> End:
+        return end_with(answers_to(script, given))
+
+    return Mode("run", script, told, end, lambda given: (joined(*told(given)), 1))
+
+
+def audit_of(audit: Transcript) -> Mode:
+    """An audit answers at its end: its goal is reached by the last step but two, and not before."""
+
+    def end(given: bytes) -> End:
+        rows = given.splitlines()
+        if len(rows) < 2 or rows != audit.lines[: len(rows)]:
+            return joined(NOT_JSON), 1
+        if len(rows) < len(audit.lines) - 2:
+            return b'{"missing":"r","verdict":"goal missing"}\n', 1
+        return audit.wanted, 0
+
+    def told(given: bytes) -> list[bytes]:
+        return audit.answers if given == audit.given else []
+
+    return Mode("audit", audit, told, end, lambda _: (b"", 1))
+
+
+def check_calls(program: Path, mode: Mode, fault: Fault, wanted: Callable[[int], End]) -> int:
     """How many of the calls went wrong, each with the output and status that are wanted."""
     count = 0
-    for number, found in faults.each(attempt, fault, to_the_end):
+    attempt = faults.runs(program, [mode.word], mode.script.given)
+    for number, found in faults.each(attempt, fault):
         same(found[:2], wanted(number), f"at call {number}")
         count += 1
-    print(f"  {what} that went wrong: {count}")
+    print(f"  {fault.kind}s that went wrong: {count}")
     return count
 
 
@@ -182,70 +179,70 @@ HARMLESS = (1, INTERRUPTED)
 
 
 @parametrised
-def reads_gone_wrong(program: Path, word: str, given: bytes, moves: int, wanted: Ending) -> None:
+def reads_gone_wrong(program: Path, mode: Mode, moves: int, last: int = 0) -> None:
     """Each read of few bytes fails, or moves one byte, or is interrupted, or it and all after it
-    find the end; `wanted` has the output and status from the bytes read."""
+    find the end."""
+    given = mode.script.given
 
-    def wanted_at(number: int) -> End:
-        return wanted(given if moves in HARMLESS else given[: FEW * (number - 1)])
+    def wanted(number: int) -> End:
+        if moves in HARMLESS:
+            return mode.end(given)
+        return (mode.end if moves == 0 else mode.cut_off)(given[: FEW * (number - 1)])
 
-    attempt, fault = faults.runs(program, [word], given), Fault("read", moves=moves, most=FEW)
-    count = check_calls("reads", attempt, fault, wanted_at, moves == 0)
+    count = check_calls(program, mode, Fault("read", moves=moves, most=FEW, last=last), wanted)
     assert count > len(given) // FEW, "too few reads"
 
 
-def writes_of(given: bytes, answers: Answers) -> list[list[bytes]]:
-    """What a run writes after each read, with reads and writes of few bytes: the answers to the
-    lines that are whole then, and not yet answered."""
-    ends = [*range(FEW, len(given), FEW), len(given)]
-    texts = [joined(*answers(given[:end])) for end in ends]
-    pieces = [text[len(before) :] for before, text in zip([b"", *texts], texts)]
-    places = [(piece, range(0, len(piece), FEW)) for piece in pieces if piece]
-    return [[piece[at : at + FEW] for at in starts] for piece, starts in places]
+def writes_of(mode: Mode) -> list[tuple[int, bytes]]:
+    """What is written, with reads and writes of few bytes, each with the number of its read: after
+    each the answers to the lines that are whole then, and not yet answered."""
+    given, before, writes = mode.script.given, b"", []
+    for end in (*range(FEW, len(given), FEW), len(given)):
+        text = joined(*mode.told(given[:end]))
+        starts = range(len(before), len(text), FEW)
+        writes += [(end, text[at : at + FEW]) for at in starts]
+        before = text
+    return writes
 
 
 @parametrised
-def writes_gone_wrong(
-    program: Path, word: str, given: bytes, moves: int, answers: Answers, to_the_end: bool = False
-) -> None:
+def writes_gone_wrong(program: Path, mode: Mode, moves: int, last: int = 0) -> None:
     """Each write fails, is interrupted, or takes none or one of its bytes. One byte and a signal
     change nothing; else the run ends with status 1, and what is written is a prefix.
 
     As the writer is dropped, it tries once more to write what it holds: if only one write goes
     wrong, the rest of that piece is there too.
     """
-    pieces = writes_of(given, answers)
-    rows = [(place, row) for place, piece in enumerate(pieces) for row in piece]
-    whole = joined(*answers(given)), int(answers(given) != [SHARED])
+    rows, answers = writes_of(mode), mode.told(mode.script.given)
 
     def wanted(number: int) -> End:
         if moves in HARMLESS:
-            return whole
-        if to_the_end:
+            return joined(*answers), int(answers != [SHARED])
+        if last:
             return b"".join(row for _, row in rows[: number - 1]), 1
-        last = rows[number - 1][0]
-        return b"".join(row for place, row in rows if place <= last), 1
+        return b"".join(row for place, row in rows if place <= rows[number - 1][0]), 1
 
-    attempt, fault = faults.runs(program, [word], given), Fault("write", moves=moves, most=FEW)
-    count = check_calls("writes", attempt, fault, wanted, to_the_end)
+    count = check_calls(program, mode, Fault("write", moves=moves, most=FEW, last=last), wanted)
     assert count == len(rows) or (moves in HARMLESS and count > len(rows)), "other writes"
 
 
 @parametrised
-def answers_in_one_write(program: Path, word: str, given: bytes, answers: list[bytes]) -> None:
+def answers_in_one_write(program: Path, mode: Mode) -> None:
     """Answers to lines that came together are written together: if the first write fails there is
     none, and no run makes a second write."""
-    attempt = faults.runs(program, [word], given)
-    same(attempt(Fault()).output, joined(*answers))
-    same(check_calls("writes", attempt, Fault("write"), lambda _: (b"", 1), True), 1)
+    given = mode.script.given
+    same(ran(program, [mode.word], given, Fault()).output, joined(*mode.told(given)))
+    failing = Fault("write", last=WITHOUT_END)
+    same(check_calls(program, mode, failing, lambda _: (b"", 1)), 1)
 
 
 @parametrised
-def cut_inputs(program: Path, word: str, given: bytes, wanted: Ending) -> None:
+def cut_inputs(program: Path, mode: Mode) -> None:
     """An input that ends after each of its bytes is answered line by line."""
+    given = mode.script.given
     for count in range(len(given) + 1):
-        found = ran(program, [word], given[:count], Fault())
-        same(found[:2], wanted(given[:count]), f"cut after {count} bytes")
+        found = ran(program, [mode.word], given[:count], Fault())
+        same(found[:2], mode.end(given[:count]), f"cut after {count} bytes")
     print(f"  inputs: {len(given) + 1}")
 
 
@@ -267,57 +264,40 @@ def unread(program: Path, word: str) -> None:
         os.close(writing)
 
 
-def told_by_run(given: bytes) -> list[bytes]:
-    """What a run answers to the lines that are whole."""
-    whole = given[: given.rfind(b"\n") + 1]
-    return answers_to(scripts.PLAIN, whole) if whole else []
-
-
-def told_by_audit(given: bytes) -> list[bytes]:
-    """What an audit answers: nothing before its end."""
-    return AUDIT.answers if given == AUDIT.given else []
-
-
-def tests_of_calls(word: str, given: bytes, told: Answers, end: Ending, cut_off: Ending) -> Tests:
-    """Reads and writes of a mode that go wrong; `cut_off` is how it ends if a read fails."""
-    for name, moves, wanted in [
-        ("fail", FAILS, cut_off),
-        ("find-the-end", 0, end),
-        ("move-one-byte", 1, end),
-        ("are-interrupted", INTERRUPTED, end),
+def tests_of_devices(mode: Mode, short: Mode) -> Tests:
+    """Reads and writes of a mode that go wrong, and inputs that are cut."""
+    word = mode.word
+    for name, moves, last in [
+        ("fail", FAILS, 0),
+        ("find-the-end", 0, WITHOUT_END),
+        ("move-one-byte", 1, 0),
+        ("are-interrupted", INTERRUPTED, 0),
     ]:
-        yield f"reads-of-{word}-that-{name}", reads_gone_wrong(word, given, moves, wanted)
-    kinds = {"fail": FAILS, "take-no-byte": 0, "take-one-byte": 1, "are-interrupted": INTERRUPTED}
-    for name, moves in kinds.items():
-        yield f"writes-of-{word}-that-{name}", writes_gone_wrong(word, given, moves, told)
-    from_then_on = writes_gone_wrong(word, given, FAILS, told, True)
-    yield f"writes-of-{word}-that-fail-from-then-on", from_then_on
-    yield f"answers-of-{word}-in-one-write", answers_in_one_write(word, given, told(given))
-
-
-def tests_of_devices() -> Tests:
-    """Reads and writes of `run` and `audit` that go wrong, and inputs that are cut."""
-    script, short, of_audit = scripts.PLAIN, scripts.SHORT, partial(end_of_audit, AUDIT)
-    runs = "run", script.given, told_by_run, partial(end_of_run, script)
-    yield from tests_of_calls(*runs, lambda given: (joined(*told_by_run(given)), 1))
-    audits = "audit", AUDIT.given, told_by_audit, of_audit
-    yield from tests_of_calls(*audits, lambda _: (b"", 1))
-    yield "cut-inputs-of-run", cut_inputs("run", short.given, partial(end_of_run, short))
-    yield "cut-inputs-of-audit", cut_inputs("audit", AUDIT.given, of_audit)
-    for word in FIRST_LINES:
-        yield f"closed-input-of-{word}", closed(word, "<&-")
-        yield f"closed-output-of-{word}", closed(word, ">&-")
-        yield f"output-that-nobody-reads-of-{word}", unread(word)
+        yield f"reads-of-{word}-that-{name}", reads_gone_wrong(mode, moves, last)
+    for name, moves, last in [
+        ("fail", FAILS, 0),
+        ("fail-from-then-on", FAILS, WITHOUT_END),
+        ("take-no-byte", 0, 0),
+        ("take-one-byte", 1, 0),
+        ("are-interrupted", INTERRUPTED, 0),
+    ]:
+        yield f"writes-of-{word}-that-{name}", writes_gone_wrong(mode, moves, last)
+    yield f"answers-of-{word}-in-one-write", answers_in_one_write(mode)
+    yield f"cut-inputs-of-{word}", cut_inputs(short)
+    yield f"closed-input-of-{word}", closed(word, "<&-")
+    yield f"closed-output-of-{word}", closed(word, ">&-")
+    yield f"output-that-nobody-reads-of-{word}", unread(word)
 
 
 def tests() -> Tests:
+    yield from named_in(globals())
     yield "memory-refused-once", memory_refused(scripts.RUN)
-    yield "memory-refused-from-then-on", memory_refused(scripts.RUN, to_the_end=True)
+    yield "memory-refused-from-then-on", memory_refused(scripts.RUN, WITHOUT_END)
     yield "memory-refused-in-a-run-without-errors", memory_refused(scripts.WITHOUT_ERRORS)
     yield "memory-refused-among-64-principals", memory_refused(scripts.CROWDED)
     yield "memory-refused-while-acting-for-another", memory_refused(scripts.ACTING)
     refused_openings = memory_of_one_answer_refused(scripts.REFUSED_OPENINGS)
     yield "memory-refused-at-refused-openings", refused_openings
     yield "memory-of-audits-refused", memory_of_one_answer_refused(scripts.AUDITS)
-    yield "memory-of-texts-refused", memory_of_texts_refused
-    yield from tests_of_devices()
+    yield from tests_of_devices(run_of(scripts.PLAIN), run_of(scripts.SHORT))
+    yield from tests_of_devices(audit_of(AUDIT), audit_of(AUDIT))
