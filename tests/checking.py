@@ -10,7 +10,7 @@ import shutil
 from collections import Counter
 from collections.abc import Callable, Iterator, Sequence
 from pathlib import Path
-from typing import Concatenate, ParamSpec
+from typing import Any, Concatenate, ParamSpec
 
 Test = Callable[[Path], bool | None]
 Tests = Iterator[tuple[str, Test]]
@@ -65,6 +65,14 @@ def named(*tests: Test) -> Tests:
         yield test.__name__.replace("_", "-"), test
 
 
+def named_in(module: dict[str, Any]) -> Tests:
+    """The tests of a module by their names: all its functions of a path alone that return nothing."""
+    for one in list(module.values()):
+        if getattr(one, "__module__", "") == module["__name__"]:
+            if [*getattr(one, "__annotations__", {}).values()] == [Path, None]:
+                yield from named(one)
+
+
 def parametrised(check: Check[More]) -> Callable[More, Test]:
     """Called with all that it takes besides the program, the function makes a test."""
 
@@ -73,6 +81,27 @@ def parametrised(check: Check[More]) -> Callable[More, Test]:
         return lambda program: check(program, *more, **named)
 
     return made
+
+
+def attempted(passes: int, failures: int) -> Callable[[Test], Test]:
+    """Has a test made until it has passed so often. So many of its failures are forgiven."""
+
+    def attempting(test: Test) -> Test:
+        @functools.wraps(test)
+        def tried(program: Path) -> None:
+            passed = failed = 0
+            while passed < passes:
+                try:
+                    test(program)
+                    passed += 1
+                except (AssertionError, OSError):
+                    failed += 1
+                    if failed > failures:
+                        raise
+
+        return tried
+
+    return attempting
 
 
 def tell_counts(what: str, counts: Counter[str]) -> None:

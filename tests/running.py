@@ -1,8 +1,10 @@
 """How tests run a program: on an input, or while they talk to it. Every run has an end."""
 
 import contextlib
+import functools
 import os
 import re
+import resource
 import subprocess
 import threading
 from collections.abc import Iterator
@@ -57,6 +59,11 @@ def example(name: str, program: Path, *words: str) -> subprocess.CompletedProces
     how: dict[str, Any] = {"env": {**os.environ, "TGDOC": str(program)}, "text": True}
     command = [str(ROOT / "examples" / name), *words]
     return subprocess.run(command, capture_output=True, timeout=2 * SECONDS, **how)
+
+
+def limited(what: int, most: int, **how: Any) -> dict[str, Any]:
+    """How a program is run that may have so much of a resource, `RLIMIT_..` of the system."""
+    return {"preexec_fn": functools.partial(resource.setrlimit, what, (most, most)), **how}
 
 
 @contextlib.contextmanager

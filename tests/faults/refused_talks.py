@@ -10,7 +10,6 @@ many calls went wrong.
 
 import functools
 import itertools
-import os
 import re
 import socket
 import subprocess
@@ -25,11 +24,9 @@ from faults import faults, scripts
 from faults.faults import FAILS, INTERRUPTED, WITHOUT_END, Fault
 from faults.refused import NO_MEMORY, NOT_JSON, kind_of_answers
 from running import Process, joined, started
+from server.servers import connected, free_port
 
 SECONDS = 30
-
-# Ports below those that the system gives to clients.
-PORTS = itertools.count(20000 + os.getpid() % 10000)
 
 # The answers to lines, None for a line without one.
 Answers = list[bytes | None]
@@ -45,30 +42,11 @@ class Served(NamedTuple):
     port: int
 
 
-def free_port() -> int:
-    """A port on which nobody listens."""
-    for port in PORTS:
-        with socket.socket() as trial:
-            if trial.connect_ex(("127.0.0.1", port)) != 0:
-                return port
-    raise AssertionError("there are always more")
-
-
-def connected(process: Process, port: int) -> socket.socket | None:
-    """A connection, as soon as the server listens; None if it ends before."""
-    while process.poll() is None:
-        try:
-            return socket.create_connection(("127.0.0.1", port), timeout=SECONDS)
-        except (ConnectionRefusedError, ConnectionResetError):
-            time.sleep(0.002)
-    return None
-
-
-def talk(connection: socket.socket, lines: list[bytes]) -> Answers:
+def talk(process: Process, port: int, lines: list[bytes]) -> Answers:
     """The answers to lines, each sent after the one before is answered; None behind the end."""
     answers: Answers = []
     try:
-        with connection, connection.makefile("rb") as source:
+        with connected(process, port) as connection, connection.makefile("rb") as source:
             for line in lines:
                 connection.sendall(line + b"\n")
                 answers.append(source.readline().removesuffix(b"\n") or None)
@@ -79,7 +57,7 @@ def talk(connection: socket.socket, lines: list[bytes]) -> Answers:
     except TimeoutError:
         raise AssertionError("a talk does not end") from None
     except OSError:
-        # Closed by the server, or by both sides at once.
+        # The server has ended, or the connection was closed by it, or by both sides at once.
         pass
     return answers + [None] * (len(lines) - len(answers))
 
@@ -120,8 +98,7 @@ def serve(
         with started(program, "serve", *words, **how) as process:
             wait_for_threads(process)
             for lines in talks:
-                connection = connected(process, port)
-                answers += talk(connection, lines) if connection else [None] * len(lines)
+                answers += talk(process, port, lines)
             output, status = process.stdout.read(), process.wait(SECONDS)
         return Served(answers, output, status, count(), port)
 

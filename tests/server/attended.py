@@ -24,16 +24,16 @@ from concurrent.futures import ThreadPoolExecutor
 from pathlib import Path
 from typing import Any
 
-from checking import Tests, named, same, skipped
+from checking import Tests, attempted, named_in, same, skipped
 from faults import faults
 from faults.faults import Fault, Ran
 from models.graph import Graph
 from models.reading import line_of, read_config, read_event, read_step
-from running import ROOT, Process, Word, asked, hear, ran, started, tell
-from server.listening import free_port
+from running import ROOT, Process, Word, asked, hear, limited, ran, started, tell
 from server.servers import AGREED, ANY_PORT, BYE, CONFIG, CREATE, CREATED, HELLO, LOOK, PARTED, READ
-from server.servers import SEEN, WELCOME, WRITE, Server, asks, busy_part, in_rounds, is_silent
-from server.servers import read_all, read_line, running, takes
+from server.servers import SEEN, WELCOME, WRITE, Server, asks, busy_part, connected, free_port
+from server.servers import in_rounds, is_silent, poured, read_all, read_line, running, suspended
+from server.servers import takes
 from server.waiting import sends_all
 from transcripts import transcripts
 
@@ -50,6 +50,7 @@ class Attended(Server):
     def __init__(self, process: Process, path: Path):
         super().__init__(process)
         self.path = path
+        self.is_told = False
 
     def attendant(self) -> socket.socket:
         """A connection to the control socket."""
@@ -69,10 +70,15 @@ class Attended(Server):
         """What the server says of itself."""
         return self.ask(op="status")
 
-    def stop(self, ends: tuple[bytes, int] = AGREED, within: int = 0) -> None:
-        """Tells the server to stop, at once or within so many seconds; it ends in this way."""
+    def stop(self, within: int = 0) -> None:
+        """Tells the server to stop, at once or within so many seconds."""
+        self.is_told = True
         same(self.ask(op="stop", within=within), {"ok": "stop"})
-        same(self.end(), ends, "the end of the server")
+
+    def end_round(self, number: int) -> None:
+        """Has a round end, behind which the one of this number begins."""
+        same(self.ask(op="end round", within=0), {"ok": "end round"})
+        until("another round", lambda: self.status()["round"] == number)
 
     def errors(self) -> list[dict[str, Any]]:
         """The lines of JSON on standard error, once the server has ended."""
@@ -81,20 +87,32 @@ class Attended(Server):
 
     def said(self) -> bytes:
         """All of standard error, once the server has ended."""
+        self.end()
         return self.process.stderr.read()
 
 
 @contextlib.contextmanager
 def attended(
-    program: Path, *words: str, folder: str = "", config: bytes = CONFIG, **how: Any
+    program: Path,
+    *words: str,
+    folder: str = "",
+    config: bytes = CONFIG,
+    ends: tuple[bytes, int] | None = AGREED,
+    **how: Any,
 ) -> Iterator[Attended]:
-    """A server with a control socket, in a folder of its own if none is named."""
+    """A server with a control socket, in a folder of its own if none is named. Behind the block it
+    is told to stop, unless it was or has ended, and ends in this way."""
     with contextlib.ExitStack() as stack:
         folder = folder or stack.enter_context(tempfile.TemporaryDirectory())
         path = Path(folder) / "control"
         how = {"stderr": subprocess.PIPE, "config": config, **how}
         serving = running(program, *ANY_PORT, "--control", str(path), *words, **how)
-        yield Attended(stack.enter_context(serving), path)
+        server = Attended(stack.enter_context(serving), path)
+        yield server
+        if ends:
+            if not server.is_told and server.process.poll() is None:
+                server.stop()
+            same(server.end(), ends, "the end of the server")
 
 
 def until(what: str, holds: Callable[[], object]) -> None:
@@ -119,15 +137,14 @@ def stop_beside_another(program: Path) -> None:
     """A server whose socket was moved away leaves that of another alone, which took its path."""
     with tempfile.TemporaryDirectory() as folder, attended(program, folder=folder) as first:
         first.path = first.path.rename(f"{folder}/moved")
-        with attended(program, folder=folder) as second:
+        with attended(program, folder=folder):
             first.stop()
-            second.stop()
+            same(first.end(), AGREED)
 
 
 def stop_before_anybody_came(program: Path) -> None:
-    """So does one at which nobody was."""
-    with attended(program, "--connections", "5") as server:
-        server.stop()
+    with attended(program, "--connections", "5"):
+        pass
 
 
 def stop_before_the_configuration(program: Path) -> None:
@@ -137,34 +154,33 @@ def stop_before_the_configuration(program: Path) -> None:
         how: dict[str, Any] = {"stderr": subprocess.DEVNULL}
         with started(program, "serve", *ANY_PORT, "--control", path, **how) as process:
             until("a socket", lambda: os.path.exists(path))
-            line, status = asked(program, "control", path, "stop", "--within", "0")
-            same((line, status), (b'{"ok":"stop"}\n', 0))
+            stop = asked(program, "control", path, "stop", "--within", "0")
+            same(stop, (b'{"ok":"stop"}\n', 0))
             assert not select.select([process.stdout], [], [], 0.5)[0], "an address already"
             tell(process, CONFIG)
-            assert b'{"listening":' in hear(process)
-            same((process.stdout.read(), process.wait(30)), AGREED)
+            same(Server(process).end(), AGREED)
+
+
+def works(server: Server) -> int:
+    """How many answers a client has that sends line after line until the talk ends."""
+    count = 0
+    with server.connection() as one, contextlib.suppress(ConnectionError):
+        one.sendall(HELLO)
+        while read_line(one):
+            count += 1
+            one.sendall(LOOK)
+    return count
 
 
 def stop_while_63_clients_work(program: Path) -> None:
     """Sixty-three clients that send line after line are answered until the time is over; then their
     talks end after the lines that have come."""
-
-    def works(server: Server) -> int:
-        count = 0
-        with server.connection() as one, contextlib.suppress(ConnectionError):
-            one.sendall(HELLO)
-            while read_line(one):
-                count += 1
-                one.sendall(LOOK)
-        return count
-
     with ThreadPoolExecutor(63) as pool, attended(program, "--workers", "63") as server:
         clients = [pool.submit(works, server) for _ in range(63)]
         until("63 clients", lambda: len(server.status()["clients"]) == 63)
         with takes(2, 12):
-            server.ask(op="stop", within=2)
+            server.stop(within=2)
             counts = [one.result() for one in clients]
-        same(server.end(), AGREED)
     print(f"  {min(counts)} to {max(counts)} answers")
     assert min(counts) > 2, "a client without answers"
 
@@ -172,13 +188,12 @@ def stop_while_63_clients_work(program: Path) -> None:
 def stop_while_clients_are_silent(program: Path) -> None:
     """Silent clients are waited for as long as was named; nobody else is let in meanwhile."""
     with attended(program, "--workers", "2") as server:
-        with server.seated() as one, server.seated() as two, takes(2, 6):
-            server.ask(op="stop", within=2)
+        with server.seats(2) as (one, two), takes(2, 6):
+            server.stop(within=2)
             asks(two, BYE, PARTED)
             assert is_silent(one, 1.0), "an answer to no line"
             asks(one, LOOK, SEEN)
             same(read_all(one), b"")
-        same(server.end(), AGREED)
 
 
 def stop_while_a_client_takes_no_answers(program: Path) -> None:
@@ -189,28 +204,26 @@ def stop_while_a_client_takes_no_answers(program: Path) -> None:
         wait_while_it_works(server)
         with takes(1, 10):
             server.stop(within=1)
+            same(server.end(), AGREED)
 
 
 def stop_while_a_client_reads_a_little(program: Path) -> None:
     """A client that takes a megabyte of its answers five times a second is left too, though it
     always takes some: all answers to the lines that have come would take it ten seconds or more."""
     count = 4_000
-    with attended(program, "--workers", "1", config=LARGE) as server:
-        with server.connection() as one, contextlib.suppress(ConnectionError):
-            one.sendall(HELLO + CREATE * count)
-            read_some(one, len(WELCOME) + sum(len(CREATED % (3 + it)) for it in range(count)))
-            sends_all(one, LOOK * 1_000, 900)
-            wait_while_it_works(server)
-            one.settimeout(10.0)
-            began = time.monotonic()
-            same(server.ask(op="stop", within=0), {"ok": "stop"})
-            while server.process.poll() is None and time.monotonic() < began + 20.0:
-                read_some(one, 1 << 20)
-                time.sleep(0.2)
-        same(server.end(), AGREED)
-        took = time.monotonic() - began
-    print(f"  {took:.1f} s")
-    assert 1.0 <= took < 8.0, "not in time"
+    with attended(program, "--workers", "1", config=LARGE) as server, server.connection() as one:
+        one.sendall(HELLO + CREATE * count)
+        read_some(one, len(WELCOME) + sum(len(CREATED % (3 + it)) for it in range(count)))
+        sends_all(one, LOOK * 1_000, 900)
+        wait_while_it_works(server)
+        one.settimeout(10.0)
+        with takes(1, 8):
+            server.stop()
+            with contextlib.suppress(ConnectionError):
+                while server.process.poll() is None:
+                    read_some(one, 1 << 20)
+                    time.sleep(0.2)
+            same(server.end(), AGREED)
 
 
 def wait_while_it_works(server: Attended) -> None:
@@ -232,83 +245,63 @@ def stop_without_a_descriptor(program: Path) -> None:
         resource.prlimit(server.process.pid, files, (most, most))
         server.greet()
         assert busy_part(server.process, 2) < 0.5, "too much"
-        server.stop()
 
 
 def stop_twice(program: Path) -> None:
     """A second stop ends a silent client at once."""
     with attended(program, "--workers", "1") as server, server.seated() as one:
-        server.ask(op="stop", within=600)
+        server.stop(within=600)
         assert is_silent(one, 1.0), "an answer to no line"
         with takes(0, 5):
-            server.ask(op="stop", within=0)
+            server.stop()
             same(read_all(one), b"")
             same(server.end(), AGREED)
 
 
 def end_of_a_round(program: Path) -> None:
     """A round ends when it is told to, what it dropped is said, and the next one has what lives."""
-    with attended(program, "--connections", "9") as server:
+    with attended(program, "--connections", "9", ends=in_rounds(1)) as server:
         same(server.exchange(HELLO + CREATE + BYE).count(b"\n"), 3)
-        same(server.ask(op="end round", within=0), {"ok": "end round"})
-        until("another round", lambda: server.status()["round"] == 2)
+        server.end_round(2)
         assert b'[3,"rw"]' in server.exchange(HELLO + LOOK + BYE), "the document is lost"
         same(server.status()["connections"], {"taken": 2, "left": 7})
-        server.stop(in_rounds(1))
 
 
-def mostly(program: Path, attempt: Callable[[Path], None]) -> None:
-    """Makes five attempts, of which one may fail: on a busy machine a door may be closed late."""
-    failed = 0
-    for _ in range(5):
-        try:
-            attempt(program)
-        except (AssertionError, OSError):
-            failed += 1
-            if failed > 1:
-                raise
+# On a busy machine a door may be closed late.
+mostly = attempted(passes=5, failures=1)
 
 
+@mostly
 def late_as_a_round_ends(program: Path) -> None:
     """Who connects just after a round was told to end is served in the next one, and stays."""
-
-    def attempt(program: Path) -> None:
-        with attended(program, "--workers", "2") as server:
-            server.ask(op="end round", within=0)
-            time.sleep(0.15)
-            with server.seated() as one:
-                for _ in range(3):
-                    time.sleep(0.5)
-                    one.sendall(LOOK)
-                    same(read_line(one), SEEN)
-            server.stop(in_rounds(0))
-
-    mostly(program, attempt)
+    with attended(program, "--workers", "2", ends=in_rounds(0)) as server:
+        server.ask(op="end round", within=0)
+        time.sleep(0.15)
+        with server.seated() as one:
+            for _ in range(3):
+                time.sleep(0.5)
+                asks(one, LOOK, SEEN)
 
 
+@mostly
 def late_as_a_server_stops(program: Path) -> None:
     """Who connects just after a server was told to stop does not hold it up, and is not counted:
     the connection ends with the server."""
-
-    def attempt(program: Path) -> None:
-        with contextlib.ExitStack() as stack:
-            server = stack.enter_context(attended(program, "--workers", "2", "--log"))
-            server.ask(op="stop", within=0)
-            time.sleep(0.15)
-            with takes(0, 5):
-                same(greeting(server, stack), b"")
-                same(server.end(), AGREED)
-            same(server.errors(), [{"round": 1, "connections": 0, "entries": 0}])
-
-    mostly(program, attempt)
+    with contextlib.ExitStack() as stack:
+        server = stack.enter_context(attended(program, "--workers", "2", "--log"))
+        server.stop()
+        time.sleep(0.15)
+        with takes(0, 5):
+            same(greeting(server, stack), b"")
+            same(server.end(), AGREED)
+        same(server.errors(), [{"round": 1, "connections": 0, "entries": 0}])
 
 
 def stop_between_rounds(program: Path) -> None:
     """A stop that comes as a round ends, or between two, ends the server all the same."""
     for _ in range(5):
-        with attended(program, "--round", "1", config=LARGE) as server:
-            stop = {"op": "stop", "within": 0}
-            stopper = threading.Timer(random.Random(7).random() / 20, server.ask, kwargs=stop)
+        with attended(program, "--round", "1", config=LARGE, ends=None) as server:
+            stopper = threading.Timer(random.Random(7).random() / 20, server.stop)
             stopper.start()
             with contextlib.suppress(OSError, ValueError):
                 for _ in range(20):
@@ -328,6 +321,7 @@ def status_tells(program: Path) -> None:
         until("the document's slot", lambda: server.status()["slots"]["free"] == 4093)
         found = server.status()
         server.stop()
+        same(server.end(), AGREED)
     (client,) = found["clients"]
     known: dict[str, Any] = {
         "clients": [
@@ -364,14 +358,14 @@ def status_of_a_client_without_a_buffer(program: Path) -> None:
         with contextlib.ExitStack() as stack:
             fault = Fault("memory", place, place, whose="others")
             how, count = stack.enter_context(faults.at_fault(fault))
-            serving = attended(program, "--workers", "2", "--log", **how)
+            serving = attended(program, "--workers", "2", "--log", ends=None, **how)
             server = stack.enter_context(serving)
             answers = [greeting(server, stack), greeting(server, stack)]
             wrong = count()
             if answers == [WELCOME, b""]:
                 clients = server.status()["clients"]
                 same([client["connection"] for client in clients], [1])
-                server.ask(op="stop", within=0)
+                server.stop()
                 shorts += server.end() == SHORT
                 rows = [row for row in server.errors() if "connection" in row]
                 same([row["connection"] for row in rows], [2, 1])
@@ -403,7 +397,6 @@ def no_control_socket(program: Path) -> None:
         with attended(program, folder=name) as server:
             refused()
             server.greet()
-            server.stop()
         refused(folder / "missing" / "control")
         same(os.listdir(folder), [])
 
@@ -411,25 +404,14 @@ def no_control_socket(program: Path) -> None:
 def killed_and_started_again(program: Path) -> None:
     """After a kill the socket is still there; the next server replaces it."""
     with tempfile.TemporaryDirectory() as folder:
-        with attended(program, folder=folder) as server:
+        with attended(program, folder=folder, ends=None) as server:
             server.greet()
-            server.process.send_signal(signal.SIGKILL)
-            server.process.wait(60)
-        assert (Path(folder) / "control").is_socket(), "the socket is gone"
+            server.process.kill()
+            server.end()
+        assert server.path.is_socket(), "the socket is gone"
         with attended(program, folder=folder) as server:
             server.greet()
             same(server.status()["round"], 1)
-            server.stop()
-
-
-# Connects to a control socket; the status is 3 if that is not permitted.
-CONNECTS = """import socket, sys
-one = socket.socket(socket.AF_UNIX)
-try:
-    one.connect(sys.argv[1])
-except PermissionError:
-    sys.exit(3)
-"""
 
 
 def another_user_is_refused(program: Path) -> None:
@@ -437,14 +419,16 @@ def another_user_is_refused(program: Path) -> None:
     if os.geteuid() != 0:
         return skipped("right to act as another user")
     nobody = pwd.getpwnam("nobody")
+    connect = "import socket, sys; socket.socket(socket.AF_UNIX).connect(sys.argv[1])"
     with tempfile.TemporaryDirectory() as folder:
         os.chmod(folder, 0o777)
         with attended(program, folder=folder) as server:
             server.greet()
-            words = ["/usr/bin/env", "python3", "-c", CONNECTS, str(server.path)]
-            tried = subprocess.run(words, user=nobody.pw_uid, group=nobody.pw_gid, timeout=30)
-            server.stop()
-    same(tried.returncode, 3)
+            words = ["/usr/bin/env", "python3", "-c", connect, str(server.path)]
+            who: dict[str, Any] = {"user": nobody.pw_uid, "group": nobody.pw_gid}
+            tried = subprocess.run(words, stderr=subprocess.PIPE, timeout=30, **who)
+    same(tried.returncode, 1)
+    assert b"\nPermissionError: " in tried.stderr, tried.stderr
 
 
 def hostile_lines_at_the_control_socket(program: Path) -> None:
@@ -460,45 +444,28 @@ def hostile_lines_at_the_control_socket(program: Path) -> None:
         return bytes(source.randrange(11, 256) for _ in range(source.randrange(40)))
 
     with attended(program) as server:
-        refusals = 0
+        answers = b""
         for _ in range(10):
-            refusals += errors_of(server, b"".join(line() + b"\n" for _ in range(1_000)))
+            with server.attendant() as one:
+                answers += poured(one, *[line() + b"\n" for _ in range(1_000)])
         with server.attendant() as one:
             one.sendall(b"a" * 5_000)
             same(read_all(one), b"")
         server.greet()
         same(server.status()["course"], "serving")
-        server.stop()
-    same(refusals, 10_000)
-
-
-def send(one: socket.socket, sent: bytes) -> None:
-    """Sends bytes, and that no more comes."""
-    one.sendall(sent)
-    one.shutdown(socket.SHUT_WR)
-
-
-def errors_of(server: Attended, sent: bytes) -> int:
-    """How many answers are errors, to lines of which each is answered by one."""
-    with server.attendant() as one, ThreadPoolExecutor() as pool:
-        pool.submit(send, one, sent)
-        answers = read_all(one)
-    return sum(line.startswith(b'{"error"') for line in answers.splitlines())
+    same(sum(row.startswith(b'{"error"') for row in answers.splitlines()), 10_000)
 
 
 def stopped_by_a_signal_at_the_control_socket(program: Path) -> None:
     """Who is connected to the control socket is answered though the server's process was stopped
     meanwhile, as a job of a shell is."""
-    with attended(program) as server:
-        with server.attendant() as one:
-            for _ in range(3):
+    with attended(program) as server, server.attendant() as one:
+        for _ in range(3):
+            time.sleep(0.3)
+            with suspended(server.process):
                 time.sleep(0.3)
-                server.process.send_signal(signal.SIGSTOP)
-                time.sleep(0.3)
-                server.process.send_signal(signal.SIGCONT)
-            one.sendall(b'{"op":"status"}\n')
-            assert b'"uptime":' in read_line(one), "no answer"
-        server.stop()
+        one.sendall(b'{"op":"status"}\n')
+        assert b'"uptime":' in read_line(one), "no answer"
 
 
 def end_while_no_answer_is_taken_at_the_control_socket(program: Path) -> None:
@@ -516,25 +483,24 @@ def slow_at_the_control_socket(program: Path) -> None:
         with takes(3, 8):
             same(server.status()["round"], 1)
         same(one.recv(1), b"")
-        server.stop()
 
 
 def log_tells(program: Path) -> None:
     """The log has a line for each connection and for each round, whatever ends it."""
-    with attended(program, "--log", "--round", "2", "--patience", "1") as server:
+    words = ("--log", "--round", "2", "--patience", "1")
+    with attended(program, *words, ends=in_rounds(0)) as server:
         server.greet()
         with server.connection() as one:
             asks(one, HELLO + b"no json\n", WELCOME, b'{"error":"not json"}\n')
             with contextlib.suppress(ConnectionError):
                 read_all(one)
         server.greet("bob")
-        server.stop(in_rounds(0))
+        server.stop()
         rows = server.errors()
     keys = ("connection", "principal", "lines", "ended")
     left = [tuple(row[key] for key in keys) for row in rows if "connection" in row]
     same(left, [(1, 1, 2, "lines"), (2, 1, 2, "reading"), (3, 2, 2, "lines")])
-    rounds = [{"round": 1, "connections": 2, "entries": 0}]
-    rounds += [{"round": 2, "connections": 1, "entries": 0}]
+    rounds = [{"round": number, "connections": 3 - number, "entries": 0} for number in (1, 2)]
     same([row for row in rows if "round" in row], rounds)
 
 
@@ -553,13 +519,12 @@ def history_replays(program: Path) -> None:
     model, replayed = (Graph(read_config(LARGE.rstrip())) for _ in range(2))
     with tempfile.TemporaryDirectory() as folder:
         path = Path(folder) / "steps"
-        with attended(program, "--history", str(path), config=LARGE) as server:
+        with attended(program, "--history", str(path), config=LARGE, ends=None) as server:
             answers = server.exchange(HELLO + work.given + BYE)
             same(answers.count(b"\n"), len(work.lines) + 2)
-            server.ask(op="end round", within=0)
-            until("another round", lambda: server.status()["round"] == 2)
+            server.end_round(2)
             server.exchange(HELLO + more.given + BYE)
-            server.ask(op="stop", within=0)
+            server.stop()
             same(server.end()[1], 0)
         steps = [read_step(line) for line in path.read_bytes().splitlines()]
     for told, denied in ((work, 2), (more, 0)):
@@ -586,8 +551,8 @@ def history_without_room(program: Path) -> None:
     step = line_of({"actor": 1, "kind": "document", "op": "create", "rights": "rw"}) + b"\n"
     whole = 40 * step
     room = len(whole) // 2 + 5
-    limit = functools.partial(resource.setrlimit, resource.RLIMIT_FSIZE, (room, room))
-    how: dict[str, Any] = {"preexec_fn": limit, "restore_signals": False, "config": LARGE}
+    how = limited(resource.RLIMIT_FSIZE, room, restore_signals=False, config=LARGE)
+    how["ends"] = (in_rounds(40, 1)[0], 1)
     with tempfile.TemporaryDirectory() as folder:
         path = Path(folder) / "steps"
         with attended(program, "--round", "1", "--history", str(path), **how) as server:
@@ -597,9 +562,9 @@ def history_without_room(program: Path) -> None:
             path.write_bytes(b"")
             server.exchange(HELLO + CREATE + BYE)
             until("the third round", lambda: server.status()["round"] == 3)
-            server.stop((in_rounds(40, 1)[0], 1))
-            same(path.read_bytes(), b"")
+            server.stop()
             same(server.said().count(bytes(path)), 1)
+            same(path.read_bytes(), b"")
 
 
 def history_that_waits(program: Path) -> None:
@@ -636,25 +601,20 @@ def history_that_waits(program: Path) -> None:
 def output_that_nobody_reads(program: Path) -> None:
     """A server whose output nobody reads waits between two rounds once the pipe is full, though it
     hears of a stop, and goes on as soon as somebody reads."""
-    with attended(program, "--round", "1") as server:
-        assert server.process.stdout
+    with attended(program, "--round", "1", ends=None) as server:
         fcntl.fcntl(server.process.stdout, fcntl.F_SETPIPE_SZ, 4096)
-        served = greeted_until_silent(server)
-        same(server.ask(op="stop", within=0), {"ok": "stop"})
+        for count in range(1_000):
+            with server.connection() as one:
+                one.sendall(HELLO + BYE)
+                if is_silent(one, 2.0):
+                    break
+                same(read_all(one), WELCOME + PARTED)
+        else:
+            raise AssertionError("all were greeted")
+        server.stop()
         time.sleep(1.0)
         assert server.process.poll() is None, "it has ended"
-        same(server.end(), in_rounds(*served * [0]))
-
-
-def greeted_until_silent(server: Attended) -> int:
-    """How many clients were greeted before one that was not."""
-    for count in range(1_000):
-        with server.connection() as one:
-            one.sendall(HELLO + BYE)
-            if is_silent(one, 2.0):
-                return count
-            same(read_all(one), WELCOME + PARTED)
-    raise AssertionError("all were greeted")
+        same(server.end(), in_rounds(*count * [0]))
 
 
 def log_that_cannot_be_written(program: Path) -> None:
@@ -679,7 +639,7 @@ def control_subcommand(program: Path) -> None:
     def control(*words: Word) -> tuple[bytes, int]:
         return asked(program, "control", server.path, *words)
 
-    with attended(program) as server:
+    with attended(program, ends=None) as server:
         line, status = control("status")
         same((json.loads(line)["round"], status), (1, 0))
         watch = ("control", server.path, "status", "--watch", "1")
@@ -695,13 +655,19 @@ def control_subcommand(program: Path) -> None:
 
 
 @contextlib.contextmanager
+def control_socket() -> Iterator[tuple[Path, socket.socket]]:
+    """A control socket without a server: its path, and what listens there."""
+    with tempfile.TemporaryDirectory() as folder, socket.socket(socket.AF_UNIX) as listener:
+        listener.settimeout(30.0)
+        listener.bind(f"{folder}/control")
+        listener.listen()
+        yield Path(folder) / "control", listener
+
+
+@contextlib.contextmanager
 def answering(*answers: bytes) -> Iterator[Path]:
     """A control socket at which the first lines are answered so."""
-    with contextlib.ExitStack() as stack:
-        path = Path(stack.enter_context(tempfile.TemporaryDirectory())) / "control"
-        listener = stack.enter_context(socket.socket(socket.AF_UNIX))
-        listener.bind(str(path))
-        listener.listen()
+    with control_socket() as (path, listener), ThreadPoolExecutor(1) as pool:
 
         def answer_all() -> None:
             for answer in answers:
@@ -709,12 +675,11 @@ def answering(*answers: bytes) -> Iterator[Path]:
                     read_line(one)
                     one.sendall(answer)
 
-        with ThreadPoolExecutor(1) as pool:
-            pool.submit(answer_all)
-            try:
-                yield path
-            finally:
-                listener.shutdown(socket.SHUT_RDWR)
+        pool.submit(answer_all)
+        try:
+            yield path
+        finally:
+            listener.shutdown(socket.SHUT_RDWR)
 
 
 NO_MEMORY = b'{"error":"no memory"}\n'
@@ -743,49 +708,35 @@ def control_without_an_answer(program: Path) -> None:
 
 def control_that_is_suspended(program: Path) -> None:
     """`tgdoc control` that is suspended while it waits for an answer prints it all the same."""
-    with tempfile.TemporaryDirectory() as folder, socket.socket(socket.AF_UNIX) as listener:
-        listener.settimeout(10.0)
-        listener.bind(f"{folder}/control")
-        listener.listen()
-        words = ("control", f"{folder}/control", "status")
-        with started(program, *words) as asking, listener.accept()[0] as one:
+    with control_socket() as (path, listener), started(
+        program, "control", path, "status"
+    ) as asking:
+        with listener.accept()[0] as one:
             read_line(one)
-            for number in (signal.SIGSTOP, signal.SIGCONT):
+            time.sleep(0.2)
+            with suspended(asking):
                 time.sleep(0.2)
-                os.kill(asking.pid, number)
             time.sleep(0.2)
             one.sendall(IDLE)
-            assert asking.stdout
             same((asking.stdout.read(), asking.wait(30)), (IDLE, 0))
 
 
 def exporter_answers(_program: Path) -> None:
     """The exporter answers 503 if the server answers with an error, and with the numbers of a
     status, though a client before is silent."""
-    port = free_port()
-    with answering(NO_MEMORY, IDLE) as path, contextlib.ExitStack() as stack:
-        words = [sys.executable, str(ROOT / "examples" / "exporter"), str(path), str(port)]
-        exporter = subprocess.Popen(words, stderr=subprocess.DEVNULL)
-        stack.callback(exporter.wait, 10)
-        stack.callback(exporter.kill)
-        until("a listener", lambda: stack.enter_context(reached(port)))
-        found = [scraped(port), scraped(port)]
+    exporter, port = ROOT / "examples" / "exporter", free_port()
+    with answering(NO_MEMORY, IDLE) as path:
+        words: tuple[Word, ...] = (exporter, path, str(port))
+        with started(Path(sys.executable), *words, stderr=subprocess.DEVNULL) as process:
+            with connected(process, port):
+                found = [scraped(port), scraped(port)]
     numbers = b"tgdoc_uptime 1\ntgdoc_slots_all 8\ntgdoc_slots_free 5\ntgdoc_clients 1\n"
     same(found, [(503, b"no memory\n"), (200, numbers)])
 
 
-def reached(port: int) -> contextlib.AbstractContextManager[socket.socket | None]:
-    """A connection to the port, if anybody listens there."""
-    try:
-        return socket.create_connection(("127.0.0.1", port), 10.0)
-    except ConnectionRefusedError:
-        return contextlib.nullcontext()
-
-
 def scraped(port: int) -> tuple[int, bytes]:
     """The code and the text of the metrics at the port."""
-    line = http.client.HTTPConnection("127.0.0.1", port, timeout=20.0)
-    with contextlib.closing(line):
+    with contextlib.closing(http.client.HTTPConnection("127.0.0.1", port, timeout=20.0)) as line:
         line.request("GET", "/metrics")
         answer = line.getresponse()
         return answer.status, answer.read()
@@ -806,7 +757,7 @@ def thread_refused_to_attendants(program: Path) -> None:
             left = set(os.listdir(folder))
         answer = found.stdout.partition(b"\n")[2] if number == 4 else found.stdout
         said = b"tgdoc: a thread for --control, --log or --history cannot be started\n"
-        same(answer, b'{"settled":"no memory"}\n' if number == 4 else b"", f"at thread {number}")
+        same(answer, SHORT[0] if number == 4 else b"", f"at thread {number}")
         same((found.stderr.count(said), found.returncode), (int(number < 4), 1))
         assert left <= {"steps"}, left
 
@@ -858,7 +809,6 @@ def idle_with_a_control_socket(program: Path) -> None:
         server.greet()
         time.sleep(2)
         assert busy_part(server.process, 10) < 0.03, "too much"
-        server.stop()
 
 
 def read_some(one: socket.socket, count: int) -> None:
@@ -869,9 +819,8 @@ def read_some(one: socket.socket, count: int) -> None:
 
 def stop_without_memory(program: Path) -> None:
     """A server that may take no more memory, which clients use up, stops when it is told to."""
-    few = functools.partial(resource.setrlimit, resource.RLIMIT_AS, (384 << 20, 384 << 20))
     words = ("--workers", "2", "--memory", "1g")
-    how: dict[str, Any] = {"preexec_fn": few, "stderr": subprocess.DEVNULL}
+    how = limited(resource.RLIMIT_AS, 384 << 20, stderr=subprocess.DEVNULL, ends=None)
     with attended(program, *words, config=LARGE, **how) as server:
         with server.connection() as one, contextlib.suppress(OSError):
             one.sendall(HELLO)
@@ -880,29 +829,11 @@ def stop_without_memory(program: Path) -> None:
                 read_some(one, 1_000 * len(SEEN))
         told = server.status()
         assert told == {"error": "no memory"} or "uptime" in told, told
-        same(server.ask(op="stop", within=0), {"ok": "stop"}, "the answer to a stop")
+        server.stop()
         ended = server.end()
     print(f"  {ended}")
-    assert ended in (AGREED, (b'{"settled":"no memory"}\n', 1)), "another end"
+    assert ended in (AGREED, SHORT), "another end"
 
 
 def tests() -> Tests:
-    yield from named(stop_while_idle, stop_before_anybody_came, stop_before_the_configuration)
-    yield from named(stop_beside_another)
-    yield from named(stop_while_63_clients_work)
-    yield from named(stop_while_clients_are_silent, stop_while_a_client_takes_no_answers)
-    yield from named(stop_while_a_client_reads_a_little, stop_without_a_descriptor, stop_twice)
-    yield from named(end_of_a_round, stop_between_rounds)
-    yield from named(late_as_a_round_ends, late_as_a_server_stops)
-    yield from named(stop_without_memory, status_tells, status_of_a_client_without_a_buffer)
-    yield from named(no_control_socket, killed_and_started_again, another_user_is_refused)
-    yield from named(hostile_lines_at_the_control_socket, slow_at_the_control_socket)
-    yield from named(stopped_by_a_signal_at_the_control_socket)
-    yield from named(end_while_no_answer_is_taken_at_the_control_socket, log_tells)
-    yield from named(log_that_cannot_be_written, history_replays, history_that_cannot_be_written)
-    yield from named(history_without_room, history_that_waits, output_that_nobody_reads)
-    yield from named(no_server_without_an_end_or_a_socket, control_subcommand)
-    yield from named(control_without_an_answer, control_that_is_suspended, exporter_answers)
-    yield from named(watching_ends_with_an_error, memory_refused_to_the_control_subcommand)
-    yield from named(thread_refused_to_attendants, memory_refused_to_attendants)
-    yield from named(idle_with_a_control_socket)
+    yield from named_in(globals())

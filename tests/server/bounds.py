@@ -1,7 +1,6 @@
 """What bounds a server: the memory of a round, and the descriptors of its process."""
 
 import contextlib
-import functools
 import resource
 import subprocess
 import tempfile
@@ -9,14 +8,13 @@ import time
 from collections.abc import Iterator
 from concurrent.futures import ThreadPoolExecutor
 from pathlib import Path
-from typing import Any
 
-from checking import Tests, named, same
+from checking import Tests, named_in, same
 from models.reading import line_of
-from running import ran
+from running import limited, ran
 from server.servers import AGREED, ANY_PORT, BYE, CONFIG, CREATE, DONE, HELLO, LOOK, MADE, PARTED
-from server.servers import READ, WELCOME, WRITE, Server, asks, figure, figure_in, in_rounds
-from server.servers import is_silent, pour, read_all, read_line, running, served, takes
+from server.servers import READ, WELCOME, WRITE, Server, asks, figure, in_rounds, is_silent, pour
+from server.servers import poured, read_line, running, served, takes
 from server.waiting import sends_all
 
 MEGABYTE = 1 << 20
@@ -27,11 +25,6 @@ KEPT = 48 * MEGABYTE
 BESIDES = 64 * MEGABYTE
 BOUND = ("--memory", str(KEPT))
 LONG_TEXT = WRITE % (b"a" * 4_096)
-
-
-def peak(server: Server) -> int:
-    """The most memory that a server has had, in bytes."""
-    return figure(server.process, "VmHWM")
 
 
 def floods(server: Server, lines: bytes, times: int) -> int:
@@ -47,8 +40,8 @@ def floods(server: Server, lines: bytes, times: int) -> int:
 
 def flooded(server: Server, lines: bytes, times: int) -> int:
     """How many bytes a client that floods gets; the memory that it takes is bounded."""
-    before, count = peak(server), floods(server, HELLO + lines, times)
-    most = peak(server)
+    before = figure(server.process, "VmHWM")
+    count, most = floods(server, HELLO + lines, times), figure(server.process, "VmHWM")
     print(f"  {count >> 20} MB answered, {before >> 20} MB before, {most >> 20} MB at most")
     assert most < before + KEPT + BESIDES, "too much"
     return count
@@ -66,15 +59,7 @@ def memory_that_looks_fill(program: Path) -> None:
     """So does one that looks over 60,000 edges: lines are taken singly where one can fill it."""
     config = line_of({"principals": ["alice"], "slots": 65_536, "cells": 131_072}) + b"\n"
     with served(program, 4, 5, *BOUND, config=config) as server:
-        with server.connection() as one, one.makefile("rb") as rows:
-            one.sendall(HELLO)
-            rows.readline()
-            for _ in range(60):
-                one.sendall(CREATE * 1_000)
-                for _ in range(1_000):
-                    rows.readline()
-            one.sendall(BYE)
-            rows.readline()
+        server.exchange(HELLO, *[CREATE * 1_000] * 60, BYE)
         flooded(server, LOOK * 1_000, 1)
 
 
@@ -82,8 +67,8 @@ def memory_beside_a_flood(program: Path) -> None:
     """A client beside one that floods is answered, until the round ends and in the next one."""
     seen, count = b'{"edges":[[2,"t"],[3,"rw"]],"ok":"edges"}\n', 0
     with served(program, 2, 4, *BOUND, "--round", "2", ends=None) as server:
-        with server.connection() as honest:
-            asks(honest, HELLO + CREATE + LONG_TEXT, WELCOME, MADE, DONE)
+        with server.seated() as honest:
+            asks(honest, CREATE + LONG_TEXT, MADE, DONE)
             with ThreadPoolExecutor() as pool, contextlib.suppress(ConnectionError):
                 pool.submit(floods, server, HELLO + READ * 1_000, 200)
                 while honest.send(LOOK) and read_line(honest) == seen:
@@ -130,8 +115,7 @@ def short(
 ) -> Iterator[Server]:
     """A server whose process may have so many files open; if there is a warning, standard error has
     it, and else none; and it has what was logged."""
-    fewer = functools.partial(resource.setrlimit, resource.RLIMIT_NOFILE, (files, files))
-    how: dict[str, Any] = {"preexec_fn": fewer, "stderr": subprocess.PIPE}
+    how = limited(resource.RLIMIT_NOFILE, files, stderr=subprocess.PIPE)
     with running(program, *ANY_PORT, *words, **how) as process:
         server = Server(process)
         yield server
@@ -157,18 +141,14 @@ def descriptors_warned_of(program: Path) -> None:
 def descriptors_that_are_short(program: Path) -> None:
     """A client waits if no descriptor is left, and is served once another one has gone."""
     words = ("6 workers need 10 open files, and the limit is 7", "--workers", "6")
-    with short(program, 7, *words, "--connections", "5") as server, contextlib.ExitStack() as stack:
-        clients = [stack.enter_context(server.seated()) for _ in range(3)]
-        late = stack.enter_context(server.connection())
-        late.sendall(HELLO)
-        assert is_silent(late, 1.5), "served without a descriptor"
-        clients[0].sendall(BYE)
-        same(read_all(clients[0]), PARTED)
-        same(read_line(late), WELCOME)
-        for one in (*clients[1:], late):
-            one.sendall(BYE)
-            read_all(one)
-        server.greet()
+    with short(program, 7, *words, "--connections", "5") as server, server.seats(3) as clients:
+        with server.connection() as late:
+            late.sendall(HELLO)
+            assert is_silent(late, 1.5), "served without a descriptor"
+            same(poured(clients[0], BYE), PARTED)
+            same(read_line(late), WELCOME)
+            same([poured(one, BYE) for one in (*clients[1:], late)], [PARTED] * 3)
+            server.greet()
 
 
 def descriptors_that_never_come(program: Path) -> None:
@@ -187,12 +167,9 @@ def memory_is_said(program: Path) -> None:
         return int(next(word for word in told if word.isdigit()))
 
     same(said("--memory", "3m"), 3 * MEGABYTE)
-    usual, half = said(), figure_in(Path("/proc/meminfo"), "MemAvailable") // 2
+    usual, half = said(), figure(None, "MemAvailable") // 2
     assert 0.8 * half < usual < 1.2 * half, (usual, half)
 
 
 def tests() -> Tests:
-    yield from named(memory_that_reads_fill, memory_that_looks_fill, memory_beside_a_flood)
-    yield from named(memory_while_a_client_takes_no_answers, late_once_memory_is_used_up)
-    yield from named(memory_is_said, descriptors_warned_of, descriptors_that_are_short)
-    yield from named(descriptors_that_never_come)
+    yield from named_in(globals())

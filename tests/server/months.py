@@ -123,20 +123,15 @@ def talk(server: Server, graph: Graph, events: Events) -> bytes:
     return wanted
 
 
-def first_round(server: Server, graph: Graph) -> None:
-    """A round whose first talk uses most slots."""
-    talk(server, graph, filler(graph))
-    for _ in range(CONNECTIONS - 1):
-        talk(server, graph, reader(graph))
-
-
-def one_round(server: Server, graph: Graph, before: bytes | None) -> bytes:
+def one_round(server: Server, graph: Graph, before: bytes) -> bytes:
     """The talks of a round, the first and the last of which read, the first what was read before;
-    what the last one reads."""
-    first = talk(server, graph, reader(graph))
-    same(first, before or first, "what is left of the round before")
+    what the last one reads. The first talk of the first round uses most slots instead."""
+    if before:
+        same(talk(server, graph, reader(graph)), before, "what is left of the round before")
+    else:
+        talk(server, graph, filler(graph))
     for number in range(CONNECTIONS - 2):
-        who = (host, guest)[number % 2]
+        who = (host, guest)[number % 2] if before else lambda graph, _: reader(graph)
         talk(server, graph, who(graph, number >= CONNECTIONS - 4))
     return talk(server, graph, reader(graph))
 
@@ -144,17 +139,14 @@ def one_round(server: Server, graph: Graph, before: bytes | None) -> bytes:
 @parametrised
 def lasted(program: Path, rounds: int) -> None:
     """A server that serves so many rounds."""
-    graph, before, uses = Graph(read_config(CONFIG[:-1])), None, []
+    graph, before, uses = Graph(read_config(CONFIG[:-1])), b"", []
     # A round more comes before the others, and a talk more keeps the server alive behind them.
     count = (rounds + 1) * CONNECTIONS + 1
     words = ("--round", str(CONNECTIONS))
     in_rounds = served(program, 2, count, *words, config=CONFIG, seconds=3_600, ends=None)
     with patch.dict(os.environ, MALLOC_ARENA_MAX="1"), in_rounds as server:
         for number in range(rounds + 1):
-            if number:
-                before = one_round(server, graph, before)
-            else:
-                first_round(server, graph)
+            before = one_round(server, graph, before)
             graph = graph.rebased()
             same(json.loads(hear(server.process))["round"], number + 1)
             if number in (0, rounds // 2, rounds):

@@ -2,6 +2,7 @@
 
 import contextlib
 import os
+import socket
 import subprocess
 import sys
 import time
@@ -10,9 +11,9 @@ from concurrent.futures import ThreadPoolExecutor
 from pathlib import Path
 from typing import IO
 
-from checking import Tests, named, same
+from checking import Tests, named_in, same
 from models.reading import line_of
-from server.servers import BYE, CREATE, DONE, HELLO, Server, busy_part, served
+from server.servers import BYE, CREATE, DONE, Server, busy_part, served
 
 # Of the slots, 1 + 4 * (15 + 16) at most are reachable, a little less than half.
 SLOTS, CLIENTS, KEPT, ROUNDS, AT_ONCE = 256, 4, 15, 150, 16
@@ -25,25 +26,20 @@ WATCHED, MOST_BUSY = 3, 0.05
 @contextlib.contextmanager
 def busy_processor() -> Iterator[None]:
     """A processor that a busy program shares with whatever is begun in the block."""
-    free = os.sched_getaffinity(0)
-    os.sched_setaffinity(0, {max(free)})
-    try:
-        with subprocess.Popen([sys.executable, "-c", "while True: pass"]) as busy:
-            try:
-                yield
-            finally:
-                busy.kill()
-    finally:
-        os.sched_setaffinity(0, free)
+    with contextlib.ExitStack() as stack:
+        stack.callback(os.sched_setaffinity, 0, free := os.sched_getaffinity(0))
+        os.sched_setaffinity(0, {max(free)})
+        busy = subprocess.Popen([sys.executable, "-c", "while True: pass"])
+        stack.enter_context(busy)
+        stack.callback(busy.kill)
+        yield
 
 
 class Maker:
     """Alice, who makes documents and drops them, many lines at once."""
 
-    def __init__(self, server: Server):
-        self.connection = server.connection()
-        self.answers: IO[bytes] = self.connection.makefile("rb")
-        self.ask(HELLO)
+    def __init__(self, answers: IO[bytes], one: socket.socket):
+        self.answers, self.connection = answers, one
 
     def ask(self, lines: bytes) -> list[bytes]:
         """The answers to these lines."""
@@ -62,22 +58,24 @@ class Maker:
         remove = b'{"op":"remove","over":%s,"rights":"rw"}\n'
         same(self.ask(b"".join(remove % it for it in serials)), [DONE] * len(serials))
 
-    def leave(self) -> None:
-        self.ask(BYE)
-        self.answers.close()
-        self.connection.close()
+
+@contextlib.contextmanager
+def making(server: Server) -> Iterator[Maker]:
+    """Alice makes and drops documents, and leaves."""
+    with server.seated() as one, one.makefile("rb") as answers:
+        yield (maker := Maker(answers, one))
+        maker.ask(BYE)
 
 
 def makes_and_drops(server: Server) -> list[bytes]:
     """A client that keeps some documents, and over and over makes some more and drops them, of
     which it sends as many lines at once; the answers to those that are not made."""
-    maker = Maker(server)
-    _, refused = maker.make(KEPT)
-    for _ in range(ROUNDS):
-        made, others = maker.make(AT_ONCE)
-        refused += others
-        maker.drop(made)
-    maker.leave()
+    with making(server) as maker:
+        _, refused = maker.make(KEPT)
+        for _ in range(ROUNDS):
+            made, others = maker.make(AT_ONCE)
+            refused += others
+            maker.drop(made)
     return refused
 
 
@@ -101,8 +99,7 @@ def collector_that_frees_alone(program: Path) -> None:
     everything is dropped, however long the collector found nothing to free before, its own thread
     has room for another one soon."""
     config = line_of({"principals": ["alice"], "slots": FEW}) + b"\n"
-    with served(program, 1, 1, config=config) as server:
-        maker = Maker(server)
+    with served(program, 1, 1, config=config) as server, making(server) as maker:
         made, _ = maker.make(FEW)
         same(len(made), FEW - 1)
         time.sleep(IDLE)
@@ -112,7 +109,6 @@ def collector_that_frees_alone(program: Path) -> None:
             assert time.monotonic() < began + SOON, "no slot is free"
             made, _ = maker.make(1)
         print(f"  one of {FEW} slots is free after {time.monotonic() - began:.2f} s")
-        maker.leave()
 
 
 def server_with_nothing_to_do(program: Path) -> None:
@@ -121,11 +117,9 @@ def server_with_nothing_to_do(program: Path) -> None:
         alice.hello("alice")
         alice.remove("rw", alice.create("document", "rw"))
         time.sleep(1)
-        part = busy_part(server.process, WATCHED)
+        assert busy_part(server.process, WATCHED) < MOST_BUSY, "too much"
         alice.bye()
-    assert part < MOST_BUSY, "too much"
 
 
 def tests() -> Tests:
-    yield from named(creates_on_a_busy_processor, server_with_nothing_to_do)
-    yield from named(collector_that_frees_alone)
+    yield from named_in(globals())

@@ -6,21 +6,19 @@ one that never was.
 """
 
 import random
-import socket
 from concurrent.futures import ThreadPoolExecutor
 from pathlib import Path
 from random import Random
 
-from checking import Tests, named, parametrised, same
+from checking import Tests, named_in, parametrised, same
 from fuzz.differential import NAMES, SESSION_OPS, command, edges_among, row_of, seeds
 from models.collector import Course
 from models.graph import Graph
-from models.reading import Config, Event, line_of, read_config, read_event
+from models.reading import Event, line_of, read_config, read_event
 from models.storage import Run
 from server.servers import BYE, CONFIG, CREATE, HELLO, LOOK, MADE, PARTED, ROOMY, WELCOME, Server
-from server.servers import asks, in_rounds, read_line, served
+from server.servers import asks, in_rounds, poured, served
 from transcripts import transcripts
-
 
 TALKS = transcripts(Path(__file__).with_suffix(".txt"))
 NARROW = b'{"cells":4,"principals":["alice","bob"],"slots":3}\n'
@@ -41,7 +39,7 @@ def one_waits_for_the_next_round(program: Path) -> None:
         with server.connection() as first, server.connection() as late:
             late.sendall(HELLO + BYE)
             asks(first, HELLO + CREATE + BYE, WELCOME, MADE, PARTED)
-            same([read_line(late) for _ in range(2)], [WELCOME, PARTED])
+            asks(late, b"", WELCOME, PARTED)
 
 
 def many_clients_in_a_round(program: Path) -> None:
@@ -74,12 +72,9 @@ def visit(server: Server, source: Random, graphs: list[Graph]) -> int:
             hello = {"op": "hello", "name": source.choice(list(last.names))}
             event = command(source, last, actor, SESSION_OPS) if number else hello
             row = row_of(source, {"seat": 0, **event}) + b"\n"
-            one.sendall(row)
-            found = read_line(one)
-            for graph in graphs:
-                same(found, answer(graph, read_event(row)), f"the answer to {row!r}")
-        one.shutdown(socket.SHUT_WR)
-        same(one.recv(1), b"")
+            (wanted,) = {answer(graph, read_event(row)) for graph in graphs}
+            asks(one, row, wanted)
+        same(poured(one), b"")
     for graph in graphs:
         graph.stand_up()
     return count
@@ -107,7 +102,7 @@ def same_before_and_after_a_rebase(program: Path) -> None:
 
 def models_after_garbage(_: Path) -> None:
     """The worked case of a rebase after garbage, by the models."""
-    config: Config = read_config(NARROW[:-1])
+    config = read_config(NARROW[:-1])
     models: list[Course | Run] = [Course(config), Run(config)]
     for model in models:
         for name in ("garbage", "afterwards"):
@@ -120,18 +115,20 @@ def models_after_garbage(_: Path) -> None:
         same((sorted(graph.kinds), graph.label(1, 4), graph.next), ([1, 2, 4], "r", 5))
 
 
+# Talks, what is dropped after each round, and how many talks are in one.
+ROUNDS: dict[str, tuple[str, list[int], int]] = {
+    "a-server-in-rounds": ("writes reads", [2], 1),
+    "one-round": ("writes reads", [], 2),
+    "round-of-more-than-the-connections": ("writes reads", [], 10**6),
+    "last-round-is-shorter": ("writes reads reads reads reads", [3, 2], 2),
+    "principals-of-earlier-rounds": ("enrols retires enrols-again comes-back", [1, 1, 2], 1),
+    "agents-of-earlier-rounds": ("acts looks looks", [3, 1], 1),
+}
+
+
 def tests() -> Tests:
-    yield from named(models_after_garbage)
-    two = ("writes", "reads")
-    yield "a-server-in-rounds", talks(CONFIG, 1, *two, dropped=[2])
-    yield "one-round", talks(CONFIG, 2, *two, dropped=[])
-    yield "round-of-more-than-the-connections", talks(CONFIG, 10**6, *two, dropped=[])
-    shorter = talks(CONFIG, 2, "writes", *["reads"] * 4, dropped=[3, 2])
-    yield "last-round-is-shorter", shorter
+    yield from named_in(globals())
+    for name, (names, dropped, each) in ROUNDS.items():
+        yield name, talks(CONFIG, each, *names.split(), dropped=dropped)
     garbage = talks(NARROW, 1, "drops", "makes", "keeps", dropped=[2, 3])
     yield "garbage-is-gone-in-the-next-round", garbage
-    names = ("enrols", "retires", "enrols-again", "comes-back")
-    yield "principals-of-earlier-rounds", talks(CONFIG, 1, *names, dropped=[1, 1, 2])
-    yield "agents-of-earlier-rounds", talks(CONFIG, 1, "acts", "looks", "looks", dropped=[3, 1])
-    yield from named(one_waits_for_the_next_round, many_clients_in_a_round)
-    yield from named(same_before_and_after_a_rebase)

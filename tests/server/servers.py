@@ -5,8 +5,11 @@ its time is over.
 """
 
 import contextlib
+import functools
+import itertools
 import os
 import select
+import signal
 import socket
 import subprocess
 import time
@@ -70,14 +73,18 @@ class Server:
             asks(one, HELLO, WELCOME)
             yield one
 
+    @contextlib.contextmanager
+    def seats(self, count: int) -> Iterator[list[socket.socket]]:
+        """So many of them."""
+        with contextlib.ExitStack() as stack:
+            yield [stack.enter_context(self.seated()) for _ in range(count)]
+
     def exchange(self, *pieces: bytes) -> bytes:
         """Sends the pieces over a connection, each by itself, and reads all answers."""
         with self.connection() as one:
-            for piece in pieces:
-                one.sendall(piece)
-            one.shutdown(socket.SHUT_WR)
-            return read_all(one)
+            return poured(one, *pieces)
 
+    @functools.cache
     def end(self) -> tuple[bytes, int]:
         """What it writes after its first line, and its status, once all connections are over."""
         return self.process.stdout.read(), self.process.wait(SECONDS)
@@ -169,20 +176,47 @@ def processor_time(process: Process) -> float:
     return (int(fields[11]) + int(fields[12])) / os.sysconf("SC_CLK_TCK")
 
 
-def figure(process: Process, name: str) -> int:
-    """A figure of a process in bytes: `VmRSS`, its memory; `VmHWM`, the peak of that."""
-    return figure_in(Path(f"/proc/{process.pid}/status"), name)
-
-
-def figure_in(file: Path, name: str) -> int:
-    """A figure of the system, in bytes."""
+def figure(process: Process | None, name: str) -> int:
+    """A figure of a process in bytes, or of the system: `VmRSS`, its memory; `VmHWM`, the peak of
+    that."""
+    file = Path(f"/proc/{process.pid}/status" if process else "/proc/meminfo")
     rows = file.read_text().splitlines()
     return next(int(row.split()[1]) << 10 for row in rows if row.startswith(name + ":"))
 
 
-def poured(server: Server, *pieces: bytes) -> bytes:
-    """Sends the pieces as fast as they are taken; all answers."""
-    with server.connection() as one, ThreadPoolExecutor() as pool:
+@contextlib.contextmanager
+def suspended(process: Process) -> Iterator[None]:
+    """A process is stopped for as long as the block lasts, as a job of a shell is."""
+    process.send_signal(signal.SIGSTOP)
+    yield
+    process.send_signal(signal.SIGCONT)
+
+
+# Ports below those that the system gives to clients.
+PORTS = itertools.count(20000 + os.getpid() % 10000)
+
+
+def free_port() -> int:
+    """A port at which nobody listens."""
+    for port in PORTS:
+        with socket.socket() as trial:
+            if trial.connect_ex(("127.0.0.1", port)) != 0:
+                return port
+    raise AssertionError("there are always more")
+
+
+def connected(process: Process, port: int) -> socket.socket:
+    """A connection, as soon as a program listens at this port."""
+    while process.poll() is None:
+        with contextlib.suppress(ConnectionRefusedError, ConnectionResetError):
+            return socket.create_connection(("127.0.0.1", port), timeout=30)
+        time.sleep(0.002)
+    raise ConnectionError("the program has ended")
+
+
+def poured(one: socket.socket, *pieces: bytes) -> bytes:
+    """Sends the pieces as fast as they are taken, and no more; all answers."""
+    with ThreadPoolExecutor() as pool:
         sent = pool.submit(pour, one, pieces)
         found = read_all(one)
         sent.result(SECONDS)
@@ -192,11 +226,8 @@ def poured(server: Server, *pieces: bytes) -> bytes:
 def pour(one: socket.socket, pieces: Iterable[bytes]) -> None:
     for piece in pieces:
         one.sendall(piece)
-
-
-def denied(rule: str, cause: str, **more: str | int) -> dict[str, str | int]:
-    """The fields of a denial that are not None, as the client's exception has them."""
-    return {"rule": rule, "cause": cause, **more}
+    with contextlib.suppress(OSError):
+        one.shutdown(socket.SHUT_WR)
 
 
 def refusal_of(client: Client, name: str, *arguments: Any) -> Any:

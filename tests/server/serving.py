@@ -19,38 +19,34 @@ from pathlib import Path
 from random import Random
 from typing import Any
 
-from checking import Tests, named, parametrised, same
+from checking import Tests, named_in, parametrised, same
 from models import owners
 from running import SECONDS, example
 from server import attended, bounds, listening, pacing, piling, rounds, talks, waiting
-from server.servers import AGREED, ANY_PORT, BYE, CREATE, DONE, HELLO, LOOK, PARTED, ROOMY, SEEN
-from server.servers import WELCOME, Server, asks, denied, is_silent, poured, read_line, refusal_of
-from server.servers import running, served
-from server.talks import ENROL, NO_ACTOR, NO_PRINCIPAL, RETIRE
+from server.servers import AGREED, ANY_PORT, BYE, CREATE, HELLO, LOOK, PARTED, ROOMY, SEEN, WELCOME
+from server.servers import Server, asks, is_silent, read_line, refusal_of, running, served
 from tgdoc_client import Client, Full, Refused
 
 # A well-behaved client is answered within this many seconds, whatever others do.
 SOON = 1.0
 
 
-def in_turn(server: Server, number: int) -> int:
-    """A client of many that wait for a seat: it makes a document, which is returned, and finds its
-    own text there. Every third one leaves without a bye."""
-    with server.client() as one:
-        one.hello(["alice", "bob"][number % 2])
-        document = one.create("document", "rw")
-        one.write(document, f"text {number}")
-        same(one.read(document), f"text {number}")
-        if number % 3:
-            one.bye()
-    return document
-
-
 def more_clients_than_workers(program: Path) -> None:
-    """Twelve clients come at once to two workers: each waits its turn, and all are answered."""
+    """Twelve clients come at once to two workers: each waits its turn, makes a document and finds
+    its own text there. Every third one leaves without a bye."""
+
+    def in_turn(number: int) -> int:
+        with server.client() as one:
+            one.hello(["alice", "bob"][number % 2])
+            document = one.create("document", "rw")
+            one.write(document, f"text {number}")
+            same(one.read(document), f"text {number}")
+            if number % 3:
+                one.bye()
+        return document
+
     with served(program, 2, 12, config=ROOMY) as server, ThreadPoolExecutor(12) as pool:
-        made = sorted(pool.map(lambda number: in_turn(server, number), range(12)))
-    same(made, list(range(3, 15)))
+        same(sorted(pool.map(in_turn, range(12))), list(range(3, 15)))
 
 
 @parametrised
@@ -59,9 +55,7 @@ def waits_for_a_seat(program: Path, workers: int, *words: str) -> None:
     connections = ("--connections", str(workers + 1))
     with running(program, *ANY_PORT, *connections, *words) as process:
         server = Server(process)
-        with contextlib.ExitStack() as stack:
-            seated = [stack.enter_context(server.seated()) for _ in range(workers)]
-            late = stack.enter_context(server.connection())
+        with server.seats(workers) as seated, server.connection() as late:
             late.sendall(HELLO)
             assert is_silent(late), "answered without a worker"
             seated[0].sendall(BYE)
@@ -157,18 +151,18 @@ def visit(server: Server, serial: int) -> list[int]:
 def receive(server: Server, name: str, count: int) -> list[int]:
     """A principal enrols one guest after the other, all by one name, and drops each when it has
     left; returns the serials of the guests and of what they made."""
-    made: list[int] = []
+    made = [len(NAMES)]
     with server.client() as host:
         host.hello(name)
         for _ in range(count):
             serial = answer_of(host, "enrol", GUEST, "tg", may_be_full=True)
-            is_new = isinstance(serial, int) and serial > max(made, default=len(NAMES))
-            assert is_new, f"enrol: {serial}"
-            same(refusal_of(host, "enrol", GUEST, "r"), denied("enrol", "name taken"))
+            assert isinstance(serial, int) and serial > max(made), f"enrol: {serial}"
+            taken = {"rule": "enrol", "cause": "name taken"}
+            same(refusal_of(host, "enrol", GUEST, "r"), taken)
             made += [serial, *visit(server, serial)]
             host.remove("tg", serial)
         host.bye()
-    return made
+    return made[1:]
 
 
 def guests_beside_others(program: Path) -> None:
@@ -192,42 +186,30 @@ def retired_on_two_seats(program: Path) -> None:
             same((one.hello("alice"), other.hello("alice")), (1, 1))
             document = other.create("document", "rw")
             one.retire()
-            for client in (one, other):
-                for name, *arguments in GONE:
-                    same(refusal_of(client, name, *arguments), denied(name, "retired"))
+            for client, (name, *arguments) in itertools.product((one, other), GONE):
+                denial = {"rule": name, "cause": "retired"}
+                same(refusal_of(client, name, *arguments), denial)
             other.bye()
         with server.client() as late, server.client() as bob:
             same(refusal_of(late, "hello", "alice"), "no principal")
             same((late.hello("bob"), bob.hello("bob"), bob.enrol("alice", "t")), (2, 2, 4))
-            lacks = denied("read", "missing", missing="r", source=2, target=document)
-            same(refusal_of(bob, "read", document), lacks)
+            what: dict[str, Any] = {"rule": "read", "cause": "missing", "missing": "r"}
+            same(refusal_of(bob, "read", document), what | {"source": 2, "target": document})
             same(late.look(2), {4: "t"})
-
-
-def nobody_is_left(program: Path) -> None:
-    """When the last principal has retired nobody can say hello; the server settles."""
-    with served(program, 1, 2, config=b'{"principals":["alice"]}\n') as server:
-        same(server.exchange(HELLO, RETIRE, BYE), WELCOME + DONE + PARTED)
-        same(server.exchange(HELLO, ENROL), NO_PRINCIPAL + NO_ACTOR)
 
 
 def behave(bob: Client, document: int, is_over: threading.Event) -> float:
     """Writes and reads until all is over, thirty times at least; the longest wait."""
-    longest, number = 0.0, 0
-
-    def timed(wanted: str | None, ask: Callable[..., Any], *arguments: Any) -> None:
-        nonlocal longest
-        start = time.monotonic()
-        same(ask(document, *arguments), wanted)
-        longest = max(longest, time.monotonic() - start)
-
-    while number < 30 or not is_over.is_set():
-        timed(None, bob.write, f"text {number}")
-        timed(f"text {number}", bob.read)
-        number += 1
+    waits: list[float] = []
+    while len(waits) < 60 or not is_over.is_set():
+        text = f"text {len(waits)}"
+        for name, *arguments in (["write", text], ["read"]):
+            start = time.monotonic()
+            same(getattr(bob, name)(document, *arguments), text if name == "read" else None)
+            waits.append(time.monotonic() - start)
         time.sleep(0.005)
     bob.bye()
-    return longest
+    return max(waits)
 
 
 @parametrised
@@ -262,12 +244,10 @@ def never_reads(server: Server) -> None:
     with server.connection() as one:
         one.sendall(HELLO)
         one.settimeout(1.0)
-        try:
+        with contextlib.suppress(TimeoutError):
             for _ in range(900):
                 one.sendall(LOOK * 1_000)
-        except TimeoutError:
-            return
-    raise AssertionError("the server took all lines")
+            raise AssertionError("the server took all lines")
 
 
 def leaves_in_a_line(server: Server) -> None:
@@ -292,7 +272,7 @@ def resets(server: Server) -> None:
 
 def floods_and_reads(server: Server) -> None:
     """Sends 200,000 lines as fast as they are taken, and reads the answers, which are all there."""
-    found = poured(server, HELLO, *[LOOK * 1_000] * 200, BYE)
+    found = server.exchange(HELLO, *[LOOK * 1_000] * 200, BYE)
     same(found, WELCOME + SEEN * 200_000 + PARTED)
 
 
@@ -322,8 +302,7 @@ def of_example(program: Path, name: str, *wanted: str) -> None:
 
 def tests_at_once() -> Tests:
     """What many clients do to one another."""
-    yield from named(slots_come_back, sixteen_clients, guests_beside_others, retired_on_two_seats)
-    yield from named(nobody_is_left, more_clients_than_workers)
+    yield from named_in(globals())
     yield "four-workers-where-no-number-is-given", waits_for_a_seat(4)
     yield "one-worker", waits_for_a_seat(1, "--workers", "1")
     yield "most-workers-each-with-a-client", waits_for_a_seat(63, "--workers", "63")
@@ -333,11 +312,11 @@ def tests_at_once() -> Tests:
     yield "beside-one-that-resets", beside(resets, 20)
     yield "beside-one-that-floods-and-reads", beside(floods_and_reads, 1)
     talked = "bob reads: We meet at noon.", "carol made and dropped 200 documents"
-    yield "two-clients", of_example("two-clients", *talked)
     joined = "(no principal)", "(read denied: retired)", "(read denied: 9 has"
-    yield "join-and-leave", of_example("join-and-leave", *joined)
     acted = "(read denied: 4 has", "(no slots left)", "(assume denied: 1 has"
-    yield "act-for-another", of_example("act-for-another", *acted)
+    examples = {"two-clients": talked, "join-and-leave": joined, "act-for-another": acted}
+    for name, wanted in examples.items():
+        yield name, of_example(name, *wanted)
 
 
 def tests() -> Tests:

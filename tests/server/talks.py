@@ -6,11 +6,10 @@ import socket
 import time
 from pathlib import Path
 
-from checking import Tests, named, parametrised, same
+from checking import Tests, named_in, parametrised, same
 from running import joined
-from server.servers import AGREED, BYE, CONFIG, CREATE, HELLO, LOOK, MADE, NOT_JSON, PARTED, ROOMY
-from server.servers import SEEN, WELCOME, asks, is_silent, poured, read_all, read_line, refusal_of
-from server.servers import served
+from server.servers import BYE, CONFIG, CREATE, DONE, HELLO, LOOK, MADE, NOT_JSON, PARTED, ROOMY
+from server.servers import SEEN, WELCOME, asks, is_silent, read_all, refusal_of, served
 from transcripts import transcripts
 
 # Room for one document, by slots and by cells.
@@ -85,17 +84,24 @@ def line_in_many_segments(program: Path) -> None:
         for byte in HELLO:
             one.sendall(bytes([byte]))
             time.sleep(0.001)
-        same(read_line(one), WELCOME)
-        one.sendall(BYE)
-        same(read_all(one), PARTED)
+        asks(one, b"", WELCOME)
+        asks(one, BYE, PARTED)
+        same(read_all(one), b"")
 
 
 def after_bye(program: Path) -> None:
     """The connection ends with the answer to bye; lines behind the bye are not answered."""
-    with served(program, 1, 1, ends=None) as server, server.connection() as one:
+    with served(program, 1, 1) as server, server.connection() as one:
         one.sendall(HELLO + BYE + HELLO)
         same(read_all(one), WELCOME + PARTED)
-        same(server.end(), AGREED)
+        server.end()
+
+
+def nobody_is_left(program: Path) -> None:
+    """When the last principal has retired nobody can say hello; the server settles."""
+    with served(program, 1, 2, config=b'{"principals":["alice"]}\n') as server:
+        same(server.exchange(HELLO, RETIRE, BYE), WELCOME + DONE + PARTED)
+        same(server.exchange(HELLO, ENROL), NO_PRINCIPAL + NO_ACTOR)
 
 
 def lines_up_to_the_limit(program: Path) -> None:
@@ -116,9 +122,9 @@ OTHERS = [method + HEAD for method in METHODS]
 OTHERS += [b"\x16\x03\x01\x02\n", b"\x00\x01\x00\x08\n", b"\x00\x03\x00\x08\n"]
 
 
-def ended_unanswered(one: socket.socket, pieces: list[bytes]) -> None:
-    """Whether the server ends a connection over which these are sent without an answer."""
-    with contextlib.suppress(ConnectionError):
+def is_closed_unanswered(one: socket.socket, *pieces: bytes) -> None:
+    """The server ends a connection over which these are sent without an answer."""
+    with one, contextlib.suppress(ConnectionError):
         for piece in pieces:
             one.sendall(piece)
             time.sleep(0.001)
@@ -131,10 +137,9 @@ def other_protocols(program: Path) -> None:
     hello afterwards."""
     with served(program, 1, 2 * len(OTHERS) + 1) as server:
         for start in OTHERS:
-            with server.connection() as one:
-                ended_unanswered(one, [start + BODY])
-            with server.connection() as one:
-                ended_unanswered(one, [start[:1], start[1:2], start[2:] + BODY])
+            is_closed_unanswered(server.connection(), start + BODY)
+            pieces = start[:1], start[1:2], start[2:] + BODY
+            is_closed_unanswered(server.connection(), *pieces)
         server.greet()
 
 
@@ -142,12 +147,11 @@ def no_other_protocol(program: Path) -> None:
     """Any other first line that is no JSON is answered as such, and those behind it are taken; so
     is a line like a request of HTTP that is not the first one."""
     firsts = [b"no json\n", b"POST\n", b"get me /\n", b" GET /\n", b"\nGET /\n", b"\x16\n"]
-    for first in firsts:
-        count = first.count(b"\n")
-        with served(program, 1, 1) as server:
-            same(server.exchange(first + HELLO + BYE), NOT_JSON * count + WELCOME + PARTED)
-    with served(program, 1, 1) as server:
-        same(server.exchange(HELLO + b"GET / HTTP/1.1\n" + BYE), WELCOME + NOT_JSON + PARTED)
+    talks = {it + HELLO + BYE: NOT_JSON * it.count(b"\n") + WELCOME + PARTED for it in firsts}
+    talks[HELLO + b"GET / HTTP/1.1\n" + BYE] = WELCOME + NOT_JSON + PARTED
+    with served(program, 1, len(talks)) as server:
+        for given, wanted in talks.items():
+            same(server.exchange(given), wanted, repr(given))
 
 
 def million_lines(program: Path) -> None:
@@ -155,7 +159,7 @@ def million_lines(program: Path) -> None:
     talk. The seat is free then."""
     pieces = [HELLO, *[b"\n" * 9_999] * 100, b"\n" * 98, LOOK, BYE]
     with served(program, 1, 2) as server:
-        found = poured(server, *pieces)
+        found = server.exchange(*pieces)
         same(found, WELCOME + NOT_JSON * 999_998 + SEEN + ERROR % b"too many lines")
         server.greet()
 
@@ -192,6 +196,7 @@ def dropped_after_each_byte(program: Path) -> None:
 
 
 def tests() -> Tests:
+    yield from named_in(globals())
     lines = [line + b"\n" for line in SHORT_TALK.lines]
     yield "short-talk-line-by-line", one_talk(SHORT_TALK.wanted, *lines)
     for name, talk in TALKS.items():
@@ -200,11 +205,6 @@ def tests() -> Tests:
     yield "no-hello", one_talk(NO_ACTOR, LOOK)
     yield "two-lines-in-one-segment", one_talk(WELCOME + PARTED, HELLO + BYE)
     yield "last-line-without-line-feed", one_talk(WELCOME + SEEN, HELLO, LOOK[:-1])
-    yield from named(line_in_many_segments, answer_comes_before_more)
-    yield from named(many_lines_before_any_answer_is_read, many_lines_of_a_client)
-    yield from named(refusals_of_a_client, after_bye, lines_up_to_the_limit, other_protocols)
-    yield from named(no_other_protocol, million_lines)
-    yield from named(cut_after_each_byte, dropped_after_each_byte)
     # What was refused as full is in the history, with nothing made, and the server settles.
     for which, config in [("slots", NARROW), ("cells", FEW_CELLS)]:
         answers = WELCOME + MADE + b'{"full":"%s"}\n' % which.encode() + PARTED

@@ -6,15 +6,13 @@ takes to end one talk after the other, and no sooner.
 """
 
 import contextlib
-import os
-import signal
 import socket
 import time
 from pathlib import Path
 
-from checking import Tests, named, parametrised, same
-from server.servers import AGREED, BYE, CREATE, DONE, HELLO, LOOK, MADE, PARTED, READ, SEEN, WELCOME
-from server.servers import WRITE, is_silent, read_all, read_line, served, takes
+from checking import Tests, named_in, parametrised, same
+from server.servers import BYE, CREATE, DONE, HELLO, LOOK, MADE, PARTED, READ, SEEN, WELCOME, WRITE
+from server.servers import asks, is_silent, poured, read_all, read_line, served, suspended, takes
 
 PATIENCE = 1.0
 PATIENT = ("--patience", "1")
@@ -25,20 +23,12 @@ LONG_PATIENCE = 6.0
 LONG_PATIENT = ("--patience", "6")
 
 
-def ended_by_server(one: socket.socket) -> bytes | None:
-    """All that came until the server ended the connection; None if it reset it."""
-    try:
-        return read_all(one)
-    except ConnectionResetError:
-        return None
-
-
 @parametrised
 def silent_clients(
     program: Path, sent: bytes, answered: bytes, workers: int = 4, rounds: int = 1
 ) -> None:
     """So many clients at each worker send this and then nothing; one more, that behaves, is
-    answered once patience with each is over."""
+    answered once patience with each is over. No connection is reset."""
     count = workers * rounds
     with contextlib.ExitStack() as stack:
         server = stack.enter_context(served(program, workers, count + 1, *PATIENT))
@@ -47,7 +37,7 @@ def silent_clients(
             for one in silent:
                 one.sendall(sent)
             server.greet()
-        same([ended_by_server(one) for one in silent], [answered] * count)
+        same([read_all(one) for one in silent], [answered] * count)
 
 
 def sends_all(one: socket.socket, lines: bytes, times: int) -> None:
@@ -61,19 +51,19 @@ def sends_all(one: socket.socket, lines: bytes, times: int) -> None:
 def client_that_never_reads(program: Path) -> None:
     """A client sends lines until none is taken any more, and reads no answer: the next one is
     answered once patience is over, which is waited for once, and finds nobody in its seat."""
-    with served(program, 1, 2, *LONG_PATIENT, ends=None) as server, server.connection() as one:
+    with served(program, 1, 2, *LONG_PATIENT) as server, server.connection() as one:
         with takes(LONG_PATIENCE, 2 * LONG_PATIENCE):
             one.sendall(HELLO)
             sends_all(one, LOOK * 1_000, 900)
             server.greet()
-        same(server.end(), AGREED)
+        server.end()
 
 
 def client_that_trickles(program: Path) -> None:
     """A client that sends a byte of a line now and then has one limit for the whole line, and so
     has one that takes a little of its answers now and then for all of them; the next client is
     answered then."""
-    with served(program, 1, 2, *PATIENT, ends=None) as server, server.connection() as one:
+    with served(program, 1, 2, *PATIENT) as server, server.connection() as one:
         with takes(PATIENCE, LATEST):
             one.sendall(HELLO)
             with contextlib.suppress(ConnectionError):
@@ -81,8 +71,8 @@ def client_that_trickles(program: Path) -> None:
                     one.sendall(bytes([byte]))
                     time.sleep(PATIENCE / 5)
             server.greet()
-        same(server.end(), AGREED)
-    with served(program, 1, 2, *PATIENT, ends=None) as server, server.connection() as one:
+        server.end()
+    with served(program, 1, 2, *PATIENT) as server, server.connection() as one:
         with takes(PATIENCE, LATEST):
             one.sendall(HELLO)
             sends_all(one, LOOK * 1_000, 900)
@@ -92,38 +82,30 @@ def client_that_trickles(program: Path) -> None:
                     while is_silent(late, PATIENCE / 5):
                         one.recv(1_000)
                 same(read_line(late), WELCOME)
-        same(server.end(), AGREED)
+        server.end()
 
 
 def server_that_is_stopped_for_a_while(program: Path) -> None:
     """A server that is stopped and goes on has not lost its clients: neither one that is silent
     nor one whose line has come meanwhile."""
-    with contextlib.ExitStack() as stack:
-        server = stack.enter_context(served(program, 2, 2, *LONG_PATIENT))
-        silent, busy = (stack.enter_context(server.seated()) for _ in range(2))
+    with served(program, 2, 2, *LONG_PATIENT) as server, server.seats(2) as (silent, busy):
         for _ in range(3):
-            os.kill(server.process.pid, signal.SIGSTOP)
-            time.sleep(0.1)
-            busy.sendall(LOOK)
-            os.kill(server.process.pid, signal.SIGCONT)
+            with suspended(server.process):
+                time.sleep(0.1)
+                busy.sendall(LOOK)
             same(read_line(busy), SEEN)
-        for one in (silent, busy):
-            one.sendall(BYE)
-            same(read_all(one), PARTED)
+        same([poured(one, BYE) for one in (silent, busy)], [PARTED] * 2)
 
 
 def client_that_is_slow(program: Path) -> None:
     """A client each of whose lines comes within the limit is served for longer than that."""
+    pieces = {HELLO[:9]: b"", HELLO[9:]: WELCOME, LOOK[:5]: b"", LOOK[5:] + LOOK: SEEN * 2}
     with served(program, 1, 1, *PATIENT) as server, server.connection() as one:
-        began, found = time.monotonic(), b""
-        for piece in (HELLO[:9], HELLO[9:], LOOK[:5], LOOK[5:] + LOOK, BYE):
-            time.sleep(PATIENCE / 3)
-            one.sendall(piece)
-            found += read_line(one) if piece.endswith(b"\n") else b""
-        found += read_all(one)
-        passed = time.monotonic() - began
-    same(found, WELCOME + SEEN * 2 + PARTED)
-    assert passed > 1.5 * PATIENCE, f"{passed:.1f} s only"
+        with takes(1.5 * PATIENCE, LATEST):
+            for piece, answers in {**pieces, BYE: PARTED}.items():
+                time.sleep(PATIENCE / 3)
+                asks(one, piece, *answers.splitlines(True))
+            same(read_all(one), b"")
 
 
 def client_that_reads_late(program: Path) -> None:
@@ -151,12 +133,10 @@ def silent_client_without_a_limit(program: Path) -> None:
 
 
 def tests() -> Tests:
+    yield from named_in(globals())
     yield "silent-clients", silent_clients(b"", b"")
     yield "silent-clients-in-a-line", silent_clients(HELLO[:10], b"")
     yield "silent-clients-in-a-session", silent_clients(HELLO, WELCOME)
     in_a_line = silent_clients(HELLO + LOOK[:10], WELCOME, workers=1)
     yield "silent-clients-in-a-line-of-a-session", in_a_line
-    yield from named(client_that_never_reads, client_that_trickles)
-    yield from named(server_that_is_stopped_for_a_while)
     yield "silent-clients-one-after-the-other", silent_clients(b"", b"", workers=1, rounds=3)
-    yield from named(client_that_is_slow, client_that_reads_late, silent_client_without_a_limit)
