@@ -20,7 +20,7 @@ from collections.abc import Iterator
 from pathlib import Path
 from typing import Any
 
-from checking import Tests, same
+from checking import Tests, named_in, same
 from transcripts import transcripts
 
 # A place at which it is reported that memory ran out: file, function, what is handed on, and what
@@ -174,7 +174,7 @@ def sources(crates: Path) -> Iterator[tuple[str, str]]:
                 yield str(file.relative_to(crates)), file.read_text()
 
 
-def every_want_is_handed_on(crates: Path) -> None:
+def every_want_of_memory_is_handed_on(crates: Path) -> None:
     """Each place hands on a refusal and is listed, and each one that is listed is there."""
     texts = dict(sources(crates))
     found = Counter(place for file, text in texts.items() for place in places_in(file, text))
@@ -221,32 +221,20 @@ def every_size_is_listed(crates: Path) -> None:
     all_are_listed(found, "sizes.txt")
 
 
-# Functions with a size, which is seen as it is.
-SEEN_SIZES = [
-    ("let none = Vec::with_capacity(alloc, usize::MAX)?;", "Vec::with_capacity", "usize::MAX"),
-    ("let two = Vec::with_capacity(\nself.alloc,\nn * 2,\n)?;", "Vec::with_capacity", "n * 2"),
-    ("list.all.try_reserve(u64::MAX as usize)?;", "list.all.try_reserve", "u64::MAX as usize"),
-    ("let all = vec![in rt.alloc(); None; count * 2]?;", "vec!", "count * 2"),
-    ("let two = vec![in alloc; first, second]?;",),
-]
-
-
 HEAD = "use std::alloc::{AllocError, Global};\n\nfn work(alloc: Global) -> Option<Told> {"
 
 
-def looks_can_fail(_: Path) -> None:
-    """What is seen in bodies, which hand a refusal on, make a want up, or neither."""
+def wants_that_are_made_up_are_seen(_: Path) -> None:
+    """What is seen in bodies, which hand a refusal on, make a want up, or neither; or which ask for
+    a size."""
     for name, told in transcripts(Path(__file__).with_name("bodies.txt")).items():
-        places = places_in("x.rt", f"{HEAD}\n{told.given.decode()}}}\n")
-        found = [handed or "nothing" for _, _, handed, _ in places]
+        text = f"{HEAD}\n{told.given.decode()}}}\n"
+        found = [handed or "nothing" for _, _, handed, _ in places_in("x.rt", text)]
+        if "size" in name:
+            found = ["  ".join(size) for _, _, *size in sizes_in("x.rt", text)]
         same(found, [answer.decode() for answer in told.answers], name)
-    for body, *sizes in SEEN_SIZES:
-        listed = sizes_in("x.rt", f"fn work() {{\n{body}\n}}\n")
-        same([part for size in listed for part in size[2:]], sizes, body)
 
 
 def tests() -> Tests:
-    """All tests by their names; they take the folder of the crates."""
-    yield "every-want-of-memory-is-handed-on", every_want_is_handed_on
-    yield "every-size-is-listed", every_size_is_listed
-    yield "wants-that-are-made-up-are-seen", looks_can_fail
+    """They take the folder of the crates."""
+    yield from named_in(globals())

@@ -311,6 +311,9 @@ def stop_between_rounds(program: Path) -> None:
             assert lines.endswith(AGREED[0]) and status == 0, (lines, status)
 
 
+IS_SERVED = {"connection": 1, "principal": 1, "lines": 5}
+
+
 def status_tells(program: Path) -> None:
     """The status has what the server counts."""
     words = ("--workers", "2", "--connections", "7")
@@ -323,13 +326,9 @@ def status_tells(program: Path) -> None:
         server.stop()
         same(server.end(), AGREED)
     (client,) = found["clients"]
+    same(client, {it: client[it] for it in ("worker", "seat", "idle")} | IS_SERVED)
+    same(client["seat"], client["worker"])
     known: dict[str, Any] = {
-        "clients": [
-            {
-                **{"worker": client["worker"], "seat": client["worker"], "idle": client["idle"]},
-                **{"connection": 1, "principal": 1, "lines": 5},
-            }
-        ],
         "answers": {"refused": 1, "denied": 1, "full": 0},
         "connections": {"taken": 1, "left": 6},
         "slots": {"all": 4096, "free": 4093},
@@ -384,16 +383,14 @@ def no_control_socket(program: Path) -> None:
             assert b"control" in found.stderr, found.stderr
             return path
 
-        path = folder / "control"
-        path.write_text("a file")
+        (folder / "control").write_text("a file")
         same(refused().read_text(), "a file")
-        path.unlink()
-        path.mkdir()
-        assert refused().is_dir(), "no folder any longer"
-        path.rmdir()
-        path.symlink_to(folder / "nothing")
+        refused().unlink()
+        (folder / "control").mkdir()
+        refused().rmdir()
+        (folder / "control").symlink_to(folder / "nothing")
         assert refused().is_symlink(), "no link any longer"
-        path.unlink()
+        refused().unlink()
         with attended(program, folder=name) as server:
             refused()
             server.greet()
