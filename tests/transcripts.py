@@ -19,6 +19,8 @@ from pathlib import Path
 
 from running import joined
 
+NOT_JSON = b'{"error":"not json"}'
+
 # A line and its answer.
 Pair = tuple[bytes, bytes]
 
@@ -54,8 +56,20 @@ class Transcript:
     @property
     def pairs(self) -> list[Pair]:
         """The lines that are answered, each with its answer."""
-        unanswered = len(self.lines) - len(self.answers)
-        return list(zip(self.lines[unanswered:], self.answers, strict=True))
+        return list(zip(self.lines[self.opening :], self.answers, strict=True))
+
+    @property
+    def opening(self) -> int:
+        """How many lines open a run or an audit, and have no answer."""
+        return len(self.lines) - len(self.answers)
+
+    def answers_to(self, given: bytes) -> list[bytes]:
+        """The answers if the lines are cut after these bytes: a cut line is not JSON."""
+        rows = given.splitlines()
+        if rows[: self.opening] != self.lines[: self.opening]:
+            return [NOT_JSON]
+        pairs = zip(rows[self.opening :], self.pairs)
+        return [answer if row == line else NOT_JSON for row, (line, answer) in pairs]
 
 
 def bytes_of(text: str) -> bytes:

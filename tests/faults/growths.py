@@ -11,7 +11,7 @@ there is no allocation to fail.
 from collections import Counter
 from pathlib import Path
 
-from checking import Test, Tests, parametrised, same
+from checking import Tests, parametrised, same
 from faults import faults
 from faults.faults import Fault, Ran, tell_refused
 from running import ROOT, asked
@@ -54,9 +54,9 @@ def growth_refused(program: Path, name: str) -> None:
     assert counted(program, name)[AGAIN] > 0, "no allocation of the call itself"
 
 
-def no_growth(name: str) -> Test:
-    """The test makes no allocation."""
-    return lambda program: same(counted(program, name), Counter())
+@parametrised
+def no_growth(program: Path, name: str) -> None:
+    same(counted(program, name), Counter(), "allocations")
 
 
 def tests(program: Path) -> Tests:

@@ -18,10 +18,9 @@ from faults import faults, scripts
 from faults.faults import BEFORE_ANY, FAILS, INTERRUPTED, WITHOUT_END, Fault, Ran, one_of, ran
 from faults.faults import tell_refused
 from running import asked, joined
-from transcripts import Transcript
+from transcripts import NOT_JSON, Transcript
 
 NO_MEMORY = b'{"error":"out of memory"}'
-NOT_JSON = b'{"error":"not json"}'
 SHARED = b'{"verdict":"shared"}'
 
 # Lines that are answered.
@@ -124,24 +123,15 @@ class Mode(NamedTuple):
     cut_off: Callable[[bytes], End]
 
 
-def answers_to(script: Transcript, given: bytes) -> list[bytes]:
-    """The answers to a script that is cut after these bytes; a cut line is not JSON."""
-    rows = given.splitlines()
-    if rows[:1] != script.lines[:1]:
-        return [NOT_JSON]
-    pairs = zip(rows[1:], script.pairs)
-    return [answer if row == line else NOT_JSON for row, (line, answer) in pairs]
-
-
 def run_of(script: Transcript) -> Mode:
     """A run answers each line when it is whole."""
 
     def told(given: bytes) -> list[bytes]:
         whole = given[: given.rfind(b"\n") + 1]
-        return answers_to(script, whole) if whole else []
+        return script.answers_to(whole) if whole else []
 
     def end(given: bytes) -> End:
-        return end_with(answers_to(script, given))
+        return end_with(script.answers_to(given))
 
     return Mode("run", script, told, end, lambda given: (joined(*told(given)), 1))
 

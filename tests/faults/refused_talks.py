@@ -22,9 +22,10 @@ from typing import NamedTuple
 from checking import Tests, attempted, named_in, parametrised, same, tell_counts
 from faults import faults, scripts
 from faults.faults import FAILS, INTERRUPTED, WITHOUT_END, Fault
-from faults.refused import NO_MEMORY, NOT_JSON, kind_of_answers
+from faults.refused import NO_MEMORY, kind_of_answers
 from running import Process, joined, started
 from server.servers import connected, free_port
+from transcripts import NOT_JSON
 
 SECONDS = 30
 

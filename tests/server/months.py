@@ -19,7 +19,7 @@ from unittest.mock import patch
 from checking import Tests, parametrised, same
 from models.graph import Graph
 from models.reading import Event, line_of, read_config
-from running import hear
+from running import hear, joined
 from server.rounds import answer
 from server.servers import AGREED, Server, figure, served
 
@@ -35,16 +35,6 @@ MORE = 1.05
 CONFIG = line_of({"principals": ["alice"], "slots": 65_536, "cells": 262_144}) + b"\n"
 
 Events = Iterator[Event]
-
-
-def asked(graph: Graph, events: Events) -> tuple[bytes, bytes]:
-    """Sends what is asked, one event after the other, which are chosen by the graph as it then is;
-    the lines and their answers."""
-    lines, answers = [], []
-    for event in events:
-        lines.append(json.dumps(event).encode() + b"\n")
-        answers.append(answer(graph, {"seat": 0, **event}))
-    return b"".join(lines), b"".join(answers)
 
 
 def chores(graph: Graph, actor: int, count: int) -> Events:
@@ -116,11 +106,15 @@ def used(server: Server) -> tuple[int, int]:
 
 
 def talk(server: Server, graph: Graph, events: Events) -> bytes:
-    """One talk, which has to be answered as the graph says; its answers."""
-    sent, wanted = asked(graph, events)
-    same(server.exchange(sent), wanted)
+    """One talk of events, each of which is chosen by the graph as it then is, and has to be answered
+    as that says; its answers."""
+    lines, answers = [], []
+    for event in events:
+        lines.append(json.dumps(event).encode())
+        answers.append(answer(graph, {"seat": 0, **event}))
+    same(server.exchange(joined(*lines)), b"".join(answers))
     graph.stand_up()
-    return wanted
+    return b"".join(answers)
 
 
 def one_round(server: Server, graph: Graph, before: bytes) -> bytes:

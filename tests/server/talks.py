@@ -8,7 +8,19 @@ from pathlib import Path
 
 from checking import Tests, named_in, parametrised, same
 from running import joined
-from server.servers import BYE, CONFIG, CREATE, DONE, HELLO, LOOK, MADE, NOT_JSON, PARTED, ROOMY
+from server.servers import (
+    BYE,
+    CONFIG,
+    CREATE,
+    CREATED,
+    DONE,
+    HELLO,
+    LOOK,
+    MADE,
+    NOT_JSON,
+    PARTED,
+    ROOMY,
+)
 from server.servers import SEEN, WELCOME, asks, is_silent, read_all, refusal_of, served
 from transcripts import transcripts
 
@@ -164,22 +176,13 @@ def million_lines(program: Path) -> None:
         server.greet()
 
 
-def answers_to(given: bytes, serial: int) -> bytes:
-    """The answers to the short talk, cut in this way; its document gets this serial."""
-    answers = []
-    for line, (whole, answer) in zip(given.splitlines(), SHORT_TALK.pairs):
-        answer = answer.replace(b'"vertex":3', b'"vertex":%d' % serial)
-        answers.append(answer if line == whole else b'{"error":"not json"}')
-    return joined(*answers)
-
-
 def cut_after_each_byte(program: Path) -> None:
     """A short talk is cut after each byte, and the connection half closed: its lines are answered,
     a cut last one as a line too."""
     whole, serial = SHORT_TALK.given, 3
     with served(program, 1, len(whole) + 2, config=ROOMY) as server:
         for count in range(len(whole) + 1):
-            wanted = answers_to(whole[:count], serial)
+            wanted = joined(*SHORT_TALK.answers_to(whole[:count])).replace(MADE, CREATED % serial)
             same(server.exchange(whole[:count]), wanted, f"cut after {count} bytes")
             serial += b"created" in wanted
         server.greet()
