@@ -444,7 +444,8 @@ def hostile_lines_at_the_control_socket(program: Path) -> None:
         answers = b""
         for _ in range(10):
             with server.attendant() as one:
-                answers += poured(one, *[line() + b"\n" for _ in range(1_000)])
+                lines = [line() + b"\n" for _ in range(1_000)]
+                answers += poured(one, *lines, is_all=True)
         with server.attendant() as one:
             one.sendall(b"a" * 5_000)
             same(read_all(one), b"")

@@ -74,7 +74,7 @@ def visit(server: Server, source: Random, graphs: list[Graph]) -> int:
             row = row_of(source, {"seat": 0, **event}) + b"\n"
             (wanted,) = {answer(graph, read_event(row)) for graph in graphs}
             asks(one, row, wanted)
-        same(poured(one), b"")
+        same(poured(one, is_all=True), b"")
     for graph in graphs:
         graph.stand_up()
     return count

@@ -82,7 +82,7 @@ class Server:
     def exchange(self, *pieces: bytes) -> bytes:
         """Sends the pieces over a connection, each by itself, and reads all answers."""
         with self.connection() as one:
-            return poured(one, *pieces)
+            return poured(one, *pieces, is_all=True)
 
     @functools.cache
     def end(self) -> tuple[bytes, int]:
@@ -214,19 +214,19 @@ def connected(process: Process, port: int) -> socket.socket:
     raise ConnectionError("the program has ended")
 
 
-def poured(one: socket.socket, *pieces: bytes) -> bytes:
-    """Sends the pieces as fast as they are taken, and no more; all answers."""
+def poured(one: socket.socket, *pieces: bytes, is_all: bool = False) -> bytes:
+    """Sends the pieces as fast as they are taken, and perhaps that they are all; all answers."""
     with ThreadPoolExecutor() as pool:
-        sent = pool.submit(pour, one, pieces)
+        sent = pool.submit(pour, one, pieces, is_all)
         found = read_all(one)
         sent.result(SECONDS)
     return found
 
 
-def pour(one: socket.socket, pieces: Iterable[bytes]) -> None:
+def pour(one: socket.socket, pieces: Iterable[bytes], is_all: bool = False) -> None:
     for piece in pieces:
         one.sendall(piece)
-    with contextlib.suppress(OSError):
+    if is_all:
         one.shutdown(socket.SHUT_WR)
 
 

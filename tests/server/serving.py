@@ -24,7 +24,7 @@ from models import owners
 from running import SECONDS, example
 from server import attended, bounds, listening, pacing, piling, rounds, talks, waiting
 from server.servers import AGREED, ANY_PORT, BYE, CREATE, HELLO, LOOK, PARTED, ROOMY, SEEN, WELCOME
-from server.servers import Server, asks, is_silent, read_line, refusal_of, running, served
+from server.servers import Server, asks, is_silent, poured, read_line, refusal_of, running, served
 from tgdoc_client import Client, Full, Refused
 
 # A well-behaved client is answered within this many seconds, whatever others do.
@@ -272,7 +272,8 @@ def resets(server: Server) -> None:
 
 def floods_and_reads(server: Server) -> None:
     """Sends 200,000 lines as fast as they are taken, and reads the answers, which are all there."""
-    found = server.exchange(HELLO, *[LOOK * 1_000] * 200, BYE)
+    with server.connection() as one:
+        found = poured(one, HELLO, *[LOOK * 1_000] * 200, BYE)
     same(found, WELCOME + SEEN * 200_000 + PARTED)
 
 

@@ -21,7 +21,7 @@ from server.servers import (
     PARTED,
     ROOMY,
 )
-from server.servers import SEEN, WELCOME, asks, is_silent, read_all, refusal_of, served
+from server.servers import SEEN, WELCOME, asks, is_silent, poured, read_all, refusal_of, served
 from transcripts import transcripts
 
 # Room for one document, by slots and by cells.
@@ -171,7 +171,8 @@ def million_lines(program: Path) -> None:
     talk. The seat is free then."""
     pieces = [HELLO, *[b"\n" * 9_999] * 100, b"\n" * 98, LOOK, BYE]
     with served(program, 1, 2) as server:
-        found = server.exchange(*pieces)
+        with server.connection() as one:
+            found = poured(one, *pieces)
         same(found, WELCOME + NOT_JSON * 999_998 + SEEN + ERROR % b"too many lines")
         server.greet()
 
