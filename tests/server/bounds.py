@@ -59,7 +59,15 @@ def memory_that_looks_fill(program: Path) -> None:
     """So does one that looks over 60,000 edges: lines are taken singly where one can fill it."""
     config = line_of({"principals": ["alice"], "slots": 65_536, "cells": 131_072}) + b"\n"
     with served(program, 4, 5, *BOUND, config=config) as server:
-        server.exchange(HELLO, *[CREATE * 1_000] * 60, BYE)
+        with server.connection() as one, one.makefile("rb") as rows:
+            one.sendall(HELLO)
+            rows.readline()
+            for _ in range(60):
+                one.sendall(CREATE * 1_000)
+                for _ in range(1_000):
+                    rows.readline()
+            one.sendall(BYE)
+            rows.readline()
         flooded(server, LOOK * 1_000, 1)
 
 
