@@ -510,6 +510,27 @@ def carried_out(graph: Graph, steps: list[dict[str, Any]]) -> int:
     )
 
 
+def two_servers_at_once(program: Path) -> None:
+    """Of two servers that start at once where a killed one has left its socket, one is refused, and
+    the other answers there."""
+    for _ in range(10):
+        with tempfile.TemporaryDirectory() as folder, contextlib.ExitStack() as stack:
+            path = Path(folder) / "control"
+            with socket.socket(socket.AF_UNIX) as left:
+                left.bind(str(path))
+            config = Path(folder) / "config"
+            config.write_bytes(CONFIG)
+            words = ("serve", *ANY_PORT, "--control", path)
+            said = []
+            for _ in range(2):
+                given = stack.enter_context(config.open("rb"))
+                how: dict[str, Any] = {"stdin": given, "stderr": subprocess.DEVNULL}
+                said.append(stack.enter_context(started(program, *words, **how)))
+            refused, listening = sorted(map(hear, said))
+            same((refused, listening[:13]), (b'{"error":"control"}\n', b'{"listening":'))
+            same(asked(program, "control", path, "status")[1], 0)
+
+
 def history_replays(program: Path) -> None:
     """The history of each round that is settled has the commands that changed edges, as steps:
     replayed they lead to the graph of the model."""
@@ -580,7 +601,8 @@ def history_that_waits(program: Path) -> None:
                 written.extend(pipe.read() or b"")
                 return written.count(b"\n") == steps
 
-            with attended(program, *words, config=LARGE) as server:
+            ends = in_rounds(100, 100, 100, 100, 0)
+            with attended(program, *words, config=LARGE, ends=ends) as server:
                 for number in range(1, 5):
                     server.exchange(HELLO + 100 * CREATE + BYE)
                     kept = 100 * 320 * number
@@ -591,7 +613,6 @@ def history_that_waits(program: Path) -> None:
                     until("all is written", lambda: are_written(400))
                     same(read_all(late), WELCOME + PARTED)
                 same(server.status()["unwritten"], 0)
-                server.stop(in_rounds(100, 100, 100, 100, 0))
     model = Graph(read_config(LARGE.rstrip()))
     same(carried_out(model, [read_step(line) for line in written.splitlines()]), 400)
 
