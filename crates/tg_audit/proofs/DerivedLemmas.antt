@@ -41,7 +41,7 @@ run_onward limits earlier G H K (e ∷ es) lawful run h =
 
 pub history_derives : (v : Contents) (H : Protection) → IsGraph v.opening → Legal v.limits v.opening v.history (graph_now v) → HasRightsOf H v.opening → Onward H (graph_now v) (derivation_of v.history)
 history_derives v H graph legal h =
-    run_onward v.limits [] v.opening H (graph_now v) v.history (record { graph = graph; agents = λ seat x was. absurd was.1 }) legal.graphs h
+    run_onward v.limits [] v.opening H (graph_now v) v.history (record { graph = graph; retired = λ x was. absurd was.1; agents = λ seat x was. absurd was.1 }) legal.graphs h
 
 -- one more entry adds its step at the end
 abbrev pub with_step : List Step → Option Step → List Step
