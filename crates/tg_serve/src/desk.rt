@@ -110,7 +110,7 @@ pub struct History {
 }
 
 /// Where a server leaves what its control socket, its log and its history take, and finds what it is asked. Nobody at
-/// the desk makes the server wait for more than a few instructions.
+/// the desk makes the server wait for more than a few instructions, but for histories that are not written in time.
 #[derive(Drop)]
 pub struct Desk {
     pub(crate) counts: Counts,
