@@ -15,25 +15,75 @@ import types
 from collections.abc import Callable, Mapping
 from importlib.machinery import SourceFileLoader
 from pathlib import Path
-from typing import Any, NoReturn, TypeAlias
+from typing import Any, NoReturn, Protocol
 
 WRITTEN_FOR = "rattle-kit-13f logic dac8208d650f15bf"
-# What is used of each program, and of what they make: of a function also the places of its parts,
-# as bytes of its file; of a source the bytes of its files by their paths, and what declares its
-# types. (A field of what they make is looked for once one is made.)
+# What is used of each program. (What is used of what they make is looked for once one is made.)
 USED_OF_RT = "rtlib must_fail read_edit unread processors free REFUSED AT_LIMIT SETTLED"
 USED_OF_RTLIB = "KIT RATTLE PARTS KEPT STALE guarded crates_below text_of files_of"
 USED_OF_BODIES = "Source Source.read named"
-USED_OF_CRATE = "name folder rlib is_program below words build_rlib"
-USED_OF_SOURCE = "functions data declared"
-USED_OF_FUNCTION = (
-    "file module block name owner has_body in_trait in_cycle has_ensures takes_self params ret body"
-    " first start named opens end"
-)
-USED_OF_BLOCK = "is_trait trait ty generics"
-Crate: TypeAlias = Any
-Source: TypeAlias = Any
-Function: TypeAlias = Any
+
+
+class Block(Protocol):
+    """The head of an impl or a trait."""
+
+    is_trait: bool
+    trait: list[str]
+    ty: list[str]
+    generics: list[str]
+
+
+class Function(Protocol):
+    """A function of a crate, with the places of its parts as bytes of its file."""
+
+    file: str
+    module: tuple[str, ...]
+    block: Block | None
+    name: str
+    owner: str
+    has_body: bool
+    in_trait: bool
+    in_cycle: bool
+    has_ensures: bool
+    takes_self: str
+    params: list[Any]
+    ret: list[str]
+    body: list[str]
+    first: int
+    start: int
+    named: tuple[int, int]
+    opens: int
+    end: int
+
+
+class Source(Protocol):
+    """The functions of a crate, the bytes of its files, and its types with what declares them."""
+
+    functions: list[Function]
+    data: dict[str, bytes]
+    declared: dict[str, list[Any]]
+
+    def read(self, file: str) -> None:
+        ...
+
+
+class Crate(Protocol):
+    """A crate of the repository: what it stands on, the words of a check of it, and its library."""
+
+    name: str
+    folder: str
+    rlib: str
+    is_program: bool
+
+    def below(self) -> list["Crate"]:
+        ...
+
+    def words(self, flags: list[str], tests: bool = False, keeps: bool = True) -> list[str]:
+        ...
+
+    def build_rlib(self, flags: list[str], anew: bool) -> int:
+        ...
+
 
 # The texts of files by their paths in the crate; None for a file that is taken away.
 Texts = dict[str, str | None]
@@ -54,8 +104,11 @@ def load(file: str) -> Any:
     return made
 
 
-def need(whose: str, of: Any, names: str) -> None:
-    """Ends the run if anything of these names is missing."""
+def need(whose: str, of: Any, names: str | type) -> None:
+    """Ends the run if anything of these names, or of those of a protocol, is missing."""
+    if isinstance(names, type):
+        members = {**names.__annotations__, **vars(names)}
+        names = " ".join(it for it in members if not it.startswith("_"))
     for name in names.split():
         try:
             operator.attrgetter(name)(of)
@@ -100,18 +153,18 @@ def crates_below(folder: str) -> list[Crate]:
     """The crates below the folder, the lower ones first."""
     crates: list[Crate] = _rtlib.crates_below(folder)
     for it in crates[:1]:
-        need("rtlib.Crate", it, USED_OF_CRATE)
+        need("rtlib.Crate", it, Crate)
     return crates
 
 
 def source_of(crate: Crate) -> Source:
-    source = _bodies.Source(crate.folder)
+    source: Source = _bodies.Source(crate.folder)
     source.read("src/main.rt" if crate.is_program else "src/lib.rt")
-    need("rt-plant-bodies.Source", source, USED_OF_SOURCE)
+    need("rt-plant-bodies.Source", source, Source)
     for it in source.functions[:1]:
-        need("rt-plant-bodies.Function", it, USED_OF_FUNCTION)
-    for it in [f.block for f in source.functions if f.block][:1]:
-        need("rt-plant-bodies.Block", it, USED_OF_BLOCK)
+        need("rt-plant-bodies.Function", it, Function)
+    for block in [f.block for f in source.functions if f.block][:1]:
+        need("rt-plant-bodies.Block", block, Block)
     return source
 
 
