@@ -143,9 +143,9 @@ def tests() -> Tests:
         yield "loopback-of-ipv6", accepted("--connections 1 --listen [::1]:0", "::1")
         whole = f"--connections 1 --listen [0:0:0:0:0:0:0:1]:{free_port()}"
         yield "loopback-of-ipv6-in-full", accepted(whole, "::1")
-    others = [*OTHERS, *addresses_of_this_machine()]
-    for address in [f"{other}:{port}" for other in others for port in (0, free_port())]:
-        yield f"no-listener-on-{address}", not_served(address)
+    for other in [*OTHERS, *addresses_of_this_machine()]:
+        yield f"no-listener-on-{other}", not_served(f"{other}:0")
+        yield f"no-listener-on-{other}-at-a-port", not_served(f"{other}:{free_port()}")
     long = not_served("127.0.0.1:0", b" " * 16_385, b'{"error":"line too long"}\n')
     yield "configuration-that-is-too-long", long
     unended = accepted(here, config=CONFIG[:-1], is_whole=True)
