@@ -687,6 +687,8 @@ def control_socket() -> Iterator[tuple[Path, socket.socket]]:
 def answering(*answers: bytes) -> Iterator[Path]:
     """A control socket at which the first lines are answered so."""
     with control_socket() as (path, listener), ThreadPoolExecutor(1) as pool:
+        # (an accept with a limit would not end with the shutdown)
+        listener.setblocking(True)
 
         def answer_all() -> None:
             for answer in answers:
