@@ -14,7 +14,7 @@ use Rattle.tg_graph.proofs.RewritingLemmas.{Onward, carried}
 use Rattle.tg_vault.specs.declared.entry.Entry.{Entry}
 use Rattle.tg_vault.specs.Promise.Contents.{Contents, graph_now}
 use Rattle.tg_vault.specs.Promise.History.{EntryRun, Legal, graph_of}
-use Rattle.tg_vault.proofs.HistoryLemmas.{IsLawful, asks_subject, graph_of_more, turn_keeps}
+use Rattle.tg_vault.proofs.HistoryLemmas.{IsLawful, asks_subject, graph_of_more, lawful_first, turn_keeps}
 use Rattle.tg_vault.proofs.RetiredLemmas.{retired_leaves}
 use Rattle.tg_audit.specs.Promise.Derived.{derivation_of, entry_step, rewriting_of}
 use Rattle.tg_audit.proofs.ReplayLemmas.{take_more}
@@ -41,7 +41,7 @@ run_onward limits earlier G H K (e ∷ es) lawful run h =
 
 pub history_derives : (v : Contents) (H : Protection) → IsGraph v.opening → Legal v.limits v.opening v.history (graph_now v) → HasRightsOf H v.opening → Onward H (graph_now v) (derivation_of v.history)
 history_derives v H graph legal h =
-    run_onward v.limits [] v.opening H (graph_now v) v.history (record { graph = graph; retired = λ x was. absurd was.1; agents = λ seat x was. absurd was.1 }) legal.graphs h
+    run_onward v.limits [] v.opening H (graph_now v) v.history (lawful_first v.opening graph) legal.graphs h
 
 -- one more entry adds its step at the end
 abbrev pub with_step : List Step → Option Step → List Step

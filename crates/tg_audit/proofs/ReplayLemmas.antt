@@ -17,7 +17,7 @@ use Rattle.tg_graph.proofs.DecidingLemmas.{only_leave}
 use Rattle.tg_vault.specs.declared.entry.Entry.{Entry}
 use Rattle.tg_vault.specs.Promise.Contents.{Contents, graph_now}
 use Rattle.tg_vault.specs.Promise.History.{EntryRun, Legal}
-use Rattle.tg_vault.proofs.HistoryLemmas.{IsLawful, asks_subject, turn_keeps}
+use Rattle.tg_vault.proofs.HistoryLemmas.{IsLawful, asks_subject, lawful_first, turn_keeps}
 use Rattle.tg_vault.proofs.RetiredLemmas.{leave_allowed, retired_denied}
 use Rattle.tg_audit.specs.Promise.Replies.{replies_of}
 use Rattle.tg_audit.specs.Inner.Replies.{IsSubjectOrRetired, beyond, retired_reply}
@@ -134,7 +134,7 @@ pub record IsReplayed (v : Contents) (G : Protection) (number : ℕ) : Type 0 wh
 pub replayed_none : (v : Contents) (G : Protection) → G ≡ v.opening → IsGraph v.opening → Legal v.limits v.opening v.history (graph_now v) → IsReplayed v G 0
 replayed_none v G same opened legal = subst (λ F. IsReplayed v F 0) (sym same) (record {
   further = refl;
-  left = record { lawful = record { graph = opened; retired = λ x was. absurd was.1; agents = λ seat x was. absurd was.1 }; ends = graph_now v; run = legal.graphs };
+  left = record { lawful = lawful_first v.opening opened; ends = graph_now v; run = legal.graphs };
 })
 
 -- the next reply is the next entry's

@@ -115,8 +115,11 @@ along_keeps limits earlier G (e ∷ es) H l along =
     let rest = along_keeps limits (earlier ++ e ∷ []) along.0 es H (turn_keeps limits earlier G e along.0 l along.1) along.2 in
     subst (λ (all : List Entry). IsLawful all H) (append_assoc earlier (e ∷ []) es) rest
 
+pub lawful_first : (G : Protection) → IsGraph G → IsLawful [] G
+lawful_first G graph = record { graph = graph; retired = λ x was. absurd was.1; agents = λ seat x was. absurd was.1 }
+
 pub legal_keeps : (limits : Limits) (first : Protection) (es : List Entry) (G : Protection) → IsGraph first → Legal limits first es G → IsLawful es G
-legal_keeps limits first es G graph legal = along_keeps limits [] first es G (record { graph = graph; retired = λ x was. absurd was.1; agents = λ seat x was. absurd was.1 }) legal.graphs
+legal_keeps limits first es G graph legal = along_keeps limits [] first es G (lawful_first first graph) legal.graphs
 
 -- whoever a seat assumed is a subject of the history's graph
 pub assumed_subject : (limits : Limits) (first : Protection) (es : List Entry) (G : Protection) (seat x : ℕ) → IsGraph first → Legal limits first es G → WasAssumed es seat x → IsSubject G x

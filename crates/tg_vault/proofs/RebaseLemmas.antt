@@ -46,7 +46,7 @@ use Rattle.tg_vault.proofs.CycleLemmas.{course_coherent, from_idle, live_so}
 use Rattle.tg_vault.proofs.DecidedLemmas.{graph_is, held_is, of_graph}
 use Rattle.tg_vault.proofs.FitsLemmas.{fits_are}
 use Rattle.tg_vault.proofs.FreshLemmas.{begins_tied}
-use Rattle.tg_vault.proofs.HistoryLemmas.{IsLawful, active_subject, asks_subject, turn_keeps}
+use Rattle.tg_vault.proofs.HistoryLemmas.{IsLawful, active_subject, asks_subject, lawful_first, turn_keeps}
 use Rattle.tg_vault.proofs.ReopeningLemmas.{kept_retired, reopening_graph}
 use Rattle.tg_vault.proofs.RetiredLemmas.{leave_allowed, retired_alike, retired_leaves}
 use Rattle.tg_vault.proofs.SweptLemmas.{collects, noted}
@@ -222,7 +222,7 @@ rebased law agree permit stay reply v w c sound there = record {
   graph = reopening_graph w there;
   agrees = λ x active. agree (graph_now v) (reopening w) owned x (live_held v w c sound there x (active_live v w c sound there x active)) (active_subject (graph_now v) x graph active);
   legal = λ entries H legal.
-      let r = run_before permit stay reply w.limits [] (graph_now v) (reopening w) entries H (at_first (graph_now v) graph) (at_first (reopening w) (reopening_graph w there)) owned legal.graphs in
+      let r = run_before permit stay reply w.limits [] (graph_now v) (reopening w) entries H (lawful_first (graph_now v) graph) (lawful_first (reopening w) (reopening_graph w there)) owned legal.graphs in
       record {
         whole = r.0;
         legal = record { graphs = subst (λ (l : Limits). EntryRun l [] (graph_now v) entries r.0) (same_limits v w c) r.1 };
@@ -249,9 +249,6 @@ rebased law agree permit stay reply v w c sound there = record {
 
   owned : IsRestriction (graph_now v) (reopening w) (IsVertex (reopening w))
   owned = by_vertices (graph_now v) (reopening w) (Live (graph_now v) (IsRoot (moment v).world)) whole
-
-  at_first : (G : Protection) → IsGraph G → IsLawful [] G
-  at_first G g = record { graph = g; retired = λ x was. absurd was.1; agents = λ seat x was. absurd was.1 }
 
 -- of a set's elements those that are in a part of it are the part
 kept_set : (part : set.FinSet nat_cmp) (all : List ℕ) → ((x : ℕ) → set.contains part x ≡ true → set.contains (set_of all) x ≡ true) → set_of (filter (λ x. set.contains part x) all) ≡ part
